@@ -1,0 +1,22 @@
+-- What a layer with holds of its own means.
+use mathlib.Core.Path.{_≡_}
+use mathlib.Core.Bool.{Bool, true, false, _||_}
+use mathlib.Core.List.{List}
+use Prim.Native.Nat.{ℕ, _+_, _-_, _<_}
+use lib.ListN.{length, take}
+use Rattle.catalogue.specs.Meanings.{Meaning}
+use Rattle.catalogue.specs.Lists.{within}
+use Rattle.catalogue.specs.declared.held_list.HeldList.{HeldList}
+
+-- the packages of the list
+abbrev pub packages : HeldList → List ℕ
+packages h = take (h .len) (h .list)
+
+-- none of the list is held below, or n or more
+pub record Fresh (held : ℕ → Bool) (n : ℕ) (xs : List ℕ) : Type 0 where
+  pub free : (p : ℕ) → within xs p ≡ true → held p ≡ false
+  pub inside : (p : ℕ) → within xs p ≡ true → p < n
+
+-- what the layer means with these packages over m
+abbrev pub held-over : {L : Type 0} → List ℕ → Meaning L → Meaning L
+held-over xs m = record { n = m .n; stock = m .stock; places = m .places; sealed = m .sealed; held = λ p. within xs p || m .held p; holds = (32 - length xs) + m .holds }

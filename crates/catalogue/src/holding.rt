@@ -1,0 +1,111 @@
+// A layer with holds of its own.
+ghost use mathlib.Core.Path.{_≡_};
+ghost use mathlib.Core.Bool.{cond};
+ghost use mathlib.Core.List.{[]};
+ghost use Rattle.std.specs.declared.result.Result.the-variants.{Ok, Err};
+ghost use Rattle.catalogue.specs.Refusals.{answer};
+ghost use Rattle.catalogue.specs.Calls.{outside};
+ghost use Rattle.catalogue.specs.Holds.{packages, Fresh, held-over};
+use crate::held_list::HeldList;
+use crate::interface::Catalogue;
+use crate::interface::Layer;
+use crate::refusal::Refusal;
+use paths::Arc;
+
+#[derive(Drop)]
+pub struct Holding<C: Catalogue> {
+    below: C,
+    own: HeldList,
+}
+
+pub impl<C: Catalogue> Layer<C> for Holding<C> as HoldingLayer {
+    ghost laid = { held-over [] };
+
+    fn over(below: C) -> Holding<C> {
+        let own = HeldList::new();
+        Holding { below, own }
+    }
+}
+
+pub impl<C: Catalogue> Catalogue for Holding<C> as HoldingCatalogue {
+    type Label = C::Label;
+
+    ghost meaning = { λ s. held-over (packages (s .own)) (C·Catalogue .meaning (s .below)) };
+
+    ghost valid = { λ s. C·Catalogue .valid (s .below) × Fresh (C·Catalogue .meaning (s .below) .held) (C·Catalogue .meaning (s .below) .n) (packages (s .own)) };
+
+    fn n(&self) -> u32 {
+        self.below.n()
+    }
+
+    fn stock_len(&self) -> usize {
+        self.below.stock_len()
+    }
+
+    fn places_left(&self) -> usize {
+        self.below.places_left()
+    }
+
+    fn sealed(&self) -> bool {
+        self.below.sealed()
+    }
+
+    fn is_held(&self, p: u32) -> bool {
+        self.own.has(p) || self.below.is_held(p)
+    }
+
+    fn can_hold(&self) -> bool {
+        self.own.has_room() || self.below.can_hold()
+    }
+
+    fn arc_at(&self, k: usize) -> Option<Arc<C::Label>> {
+        match self.below.arc_at(k) {
+            Some(arc) => {
+                if self.own.has(arc.from) || self.own.has(arc.to) {
+                    None
+                } else {
+                    Some(arc)
+                }
+            }
+            None => None,
+        }
+    }
+
+    fn admit(&mut self, from: u32, to: u32, label: C::Label) -> Result<(), Refusal> {
+        self.below.admit(from, to, label)
+    }
+
+    fn withdraw(&mut self, from: u32, to: u32) -> Result<usize, Refusal> {
+        self.below.withdraw(from, to)
+    }
+
+    fn hold(&mut self, p: u32) -> Result<(), Refusal> {
+        check_hold(&self.own, &self.below, p)?;
+        if self.own.has_room() {
+            self.own.add(p);
+            return Ok(());
+        }
+        self.below.hold(p)
+    }
+
+    fn lift(&mut self, p: u32) -> Result<(), Refusal> {
+        if self.own.remove(p) {
+            return Ok(());
+        }
+        self.below.lift(p)
+    }
+}
+
+// The checks of `hold`, but for the holds left.
+fn check_hold<C: Catalogue>(own: &HeldList, below: &C, p: u32) -> Result<(), Refusal>
+    requires { ⌜ C·Catalogue .valid (now below) ⌝ }
+    ensures { λ r. ⌜ answer r ≡ cond (outside (C·Catalogue .meaning (now (below .entry))) p) (Err 6) (cond (held-over (packages (now (own .entry))) (C·Catalogue .meaning (now (below .entry))) .held p) (Err 10) (Ok tt)) ⌝ }
+{
+    if p >= below.n() {
+        return Err(Refusal::NoPackage);
+    }
+    if own.has(p) || below.is_held(p) {
+        return Err(Refusal::AlreadyHeld);
+    }
+    Ok(())
+}

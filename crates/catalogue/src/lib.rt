@@ -1,0 +1,32 @@
+// Catalogues of packages and the arcs between them, and layers over catalogues.
+mod call;
+mod held_list;
+mod holding;
+mod holds;
+mod interface;
+mod ledger;
+mod number;
+mod refusal;
+mod runs;
+mod turned;
+
+pub use call::Call;
+pub use holding::Holding;
+pub use holding::HoldingCatalogue;
+pub use holding::HoldingLayer;
+pub use interface::Catalogue;
+pub use interface::Layer;
+pub use interface::Make;
+pub use ledger::Blank;
+pub use ledger::Ledger;
+pub use ledger::LedgerCatalogue;
+pub use ledger::LedgerMake;
+pub use refusal::Refusal;
+pub use refusal::RefusalDebug;
+pub use refusal::RefusalEq;
+pub use refusal::RefusalPartialEq;
+pub use runs::make_call;
+pub use runs::run;
+pub use turned::Turned;
+pub use turned::TurnedCatalogue;
+pub use turned::TurnedLayer;

@@ -1,0 +1,6 @@
+use mathlib.Core.Path.{refl}
+use Rattle.labels.proofs.Alike.{licence-same}
+use Rattle.labels.proofs.licence.LicenceEntire.label.Needs as need
+
+pub returns : need.returns
+returns c = licence-same refl

@@ -1,0 +1,5 @@
+use Rattle.labels.proofs.Alike.{minutes-same}
+use Rattle.labels.proofs.minutes.MinutesLabel.extend.Needs as need
+
+pub returns : need.returns
+returns c = minutes-same (c .total .ensures)

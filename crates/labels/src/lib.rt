@@ -1,0 +1,30 @@
+// Label kinds: what the label of an arc or of a chain of arcs can be.
+mod kinds;
+mod label;
+mod licence;
+mod minutes;
+mod reach;
+mod words;
+
+pub use kinds::Licence;
+pub use kinds::LicenceDebug;
+pub use kinds::LicencePartialEq;
+pub use kinds::Minutes;
+pub use kinds::MinutesDebug;
+pub use kinds::MinutesPartialEq;
+pub use kinds::Reach;
+pub use kinds::ReachDebug;
+pub use kinds::ReachPartialEq;
+pub use label::Absent;
+pub use label::Constant;
+pub use label::Entire;
+pub use label::Label;
+pub use licence::LicenceAbsent;
+pub use licence::LicenceEntire;
+pub use licence::LicenceLabel;
+pub use minutes::MinutesAbsent;
+pub use minutes::MinutesEntire;
+pub use minutes::MinutesLabel;
+pub use reach::ReachAbsent;
+pub use reach::ReachEntire;
+pub use reach::ReachLabel;

@@ -1,0 +1,4 @@
+// Arcs, which chains and catalogues share.
+mod arc;
+
+pub use arc::Arc;
