@@ -25,6 +25,11 @@ abbrev pub answer : {A : Type 0} → Result A Refusal → Result A ℕ
 answer (Ok v) = Ok v
 answer (Err e) = Err (number e)
 
+-- a function of what was taken
+abbrev pub on-ok : {A B : Type 0} → (A → B) → Result A ℕ → Result B ℕ
+on-ok f (Ok v) = Ok (f v)
+on-ok f (Err k) = Err k
+
 -- what was made, by what it means
 abbrev pub meant : {S M : Type 0} → (S → M) → Result S Refusal → Result M ℕ
 meant meaning (Ok s) = Ok (meaning s)

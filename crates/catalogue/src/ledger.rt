@@ -89,8 +89,7 @@ pub impl<'a, K: Label> Catalogue for Ledger<'a, K> as LedgerCatalogue {
     }
 
     fn admit(&mut self, from: u32, to: u32, label: K) -> Result<(), Refusal> {
-        let places = self.arcs.len() - self.len;
-        check_admit(self.n, places, from, to, label)?;
+        check_admit(self.n, self.places_left(), from, to, label)?;
         let len = self.len;
         self.len = append(self.arcs, len, Arc { from, to, label });
         Ok(())

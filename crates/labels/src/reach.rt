@@ -37,27 +37,27 @@ pub impl Label for Reach as ReachLabel {
 
     fn join(self, other: Reach) -> Reach {
         match self {
-            Reach::No => other,
-            Reach::Yes => Reach::Yes,
+            Self::No => other,
+            Self::Yes => Self::Yes,
         }
     }
 
     fn extend(self, next: Reach) -> Reach {
         match self {
-            Reach::No => Reach::No,
-            Reach::Yes => next,
+            Self::No => Self::No,
+            Self::Yes => next,
         }
     }
 
     fn same(self, other: Reach) -> bool {
         match (self, other) {
-            (Reach::No, Reach::No) => true,
-            (Reach::Yes, Reach::Yes) => true,
+            (Self::No, Self::No) => true,
+            (Self::Yes, Self::Yes) => true,
             _ => false,
         }
     }
 
     fn from_word(word: u32) -> Option<Reach> {
-        if word == 1 { Some(Reach::Yes) } else { None }
+        if word == 1 { Some(Self::Yes) } else { None }
     }
 }

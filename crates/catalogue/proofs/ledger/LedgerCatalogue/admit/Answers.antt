@@ -1,4 +1,4 @@
-use mathlib.Core.Path.{_≡_, refl, sym, ap, ap₂, subst, _∙_}
+use mathlib.Core.Path.{_≡_, sym, ap, ap₂, subst, _∙_}
 use Prim.Native.Nat.{_+_}
 use lib.ListN.{set}
 use Rattle.std.specs.declared.result.Result.the-variants.{Err}
@@ -17,7 +17,7 @@ returns-in-Break-check-admit g c =
     let m = ledger (s .n) (s .len) (s .arcs .now) in
     let p = err-from-errBy (c .from-residual .result) (c .from-residual .ensures .1) in
     let why = c .in-Break-check-admit .field-0 .0 in
-    let told = c .in-Break-check-admit .ensures tt (s .len) (s .arcs .now) refl in
+    let told = c .in-Break-check-admit .ensures tt (s .len) (s .arcs .now) (sym (c .places-left .ensures)) in
     record {
       stays = c .pre;
       answers = ap answer (p .1) ∙ ap (λ e. answer (Err e)) (p .2) ∙ told;
@@ -27,13 +27,13 @@ returns-in-Break-check-admit g c =
 pub append-self-requires : need.append-self-requires
 append-self-requires g c κs =
     let s = c .args .self .now in
-    has-room (g .K·Label .ops) (g .K·Label·met .exact) (s .n) (s .len) (s .arcs .now) (c .args .from) (c .args .to) (c .args .label) (c .pre) (sym (c .in-Continue-check-admit .ensures tt (s .len) (s .arcs .now) refl))
+    has-room (g .K·Label .ops) (g .K·Label·met .exact) (s .n) (s .len) (s .arcs .now) (c .args .from) (c .args .to) (c .args .label) (c .pre) (sym (c .in-Continue-check-admit .ensures tt (s .len) (s .arcs .now) (sym (c .places-left .ensures))))
 
 pub returns : need.returns
 returns g c =
     let o = g .K·Label .ops in
     let s = c .args .self .now in
-    let told = c .in-Continue-check-admit .ensures tt (s .len) (s .arcs .now) refl in
+    let told = c .in-Continue-check-admit .ensures tt (s .len) (s .arcs .now) (sym (c .places-left .ensures)) in
     let e = c .append-self .ensures in
     let f = c .args .from in
     let t = c .args .to in
