@@ -15,24 +15,25 @@ use Rattle.std.proofs.shelf.Ways.{tells}
 use Rattle.catalogue.specs.Meanings.{Meaning}
 use Rattle.catalogue.specs.Calls.{outside, hold-answer, hold-leaves, held-too, lift-answer, lift-leaves, lifted}
 use Rattle.catalogue.specs.Lists.{within, without, once}
-use Rattle.catalogue.specs.Holds.{Fresh, held-over}
-use Rattle.catalogue.proofs.Listed.{within-push, within-without, length-without, or-swap, or-push, shift-not, not-out}
+use Rattle.catalogue.specs.Holds.{OwnOk, held-over}
+use Rattle.catalogue.proofs.Listed.{within-push, within-without, once-without, once-push, length-without, or-swap, or-push, shift-not, not-out}
 use Rattle.catalogue.proofs.Choosing.{over-cond}
 use Rattle.catalogue.proofs.Accepting.{err-ok}
 
 module _ {L : Type 0} (m : Meaning L) (xs : List ℕ) (p : ℕ) where
   -- hold, in the layer's own list
-  module _ (ok : Fresh (m .held) (m .n) xs) (pn : p < m .n) (out : within xs p ≡ false) (unheld : m .held p ≡ false) where
-    pub added-ok : Fresh (m .held) (m .n) (xs ++ (p ∷ []))
+  module _ (ok : OwnOk (m .held) (m .n) xs) (pn : p < m .n) (out : within xs p ≡ false) (free : m .held p ≡ false) where
+    pub added-ok : OwnOk (m .held) (m .n) (xs ++ (p ∷ []))
     added-ok = record {
-      free = λ q h. ⊎-elim (ok .free q) (λ e. ap (m .held) (eqb-true q p e) ∙ unheld) (or-cases (within xs q) (eqb q p) (sym (within-push xs p q) ∙ h));
+      apart = once-push xs p (ok .apart) out;
+      fresh = λ q h. ⊎-elim (ok .fresh q) (λ e. ap (m .held) (eqb-true q p e) ∙ free) (or-cases (within xs q) (eqb q p) (sym (within-push xs p q) ∙ h));
       inside = λ q h. ⊎-elim (ok .inside q) (λ e. let same : q ≡ p = eqb-true q p e in omega arith) (or-cases (within xs q) (eqb q p) (sym (within-push xs p q) ∙ h));
     }
 
     pub hold-taken : length xs < 32 → hold-answer (held-over xs m) p ≡ Ok tt
     hold-taken room =
         let e1 = lt-leb (m .n) p pn in
-        let e2 : (within xs p || m .held p) ≡ false = or-from (within xs p) (m .held p) out unheld in
+        let e2 : (within xs p || m .held p) ≡ false = or-from (within xs p) (m .held p) out free in
         let e3 = ne-eqb ((32 - length xs) + m .holds) 0 (λ e. omega arith) in
         simp (e1, e2, e3)
 
@@ -44,12 +45,13 @@ module _ {L : Type 0} (m : Meaning L) (xs : List ℕ) (p : ℕ) where
         e ∙ sym (ap (λ r. cond (isOk r) (held-too (held-over xs m) p) (held-over xs m)) (hold-taken room))
 
   -- hold, passed down
-  module _ (ok : Fresh (m .held) (m .n) xs) (out : within xs p ≡ false) where
-    pub passed-ok : Fresh (hold-leaves m p .held) (hold-leaves m p .n) xs
+  module _ (ok : OwnOk (m .held) (m .n) xs) (out : within xs p ≡ false) where
+    pub passed-ok : OwnOk (hold-leaves m p .held) (hold-leaves m p .n) xs
     passed-ok =
-        elim (isOk (hold-answer m p)) as (λ b. Fresh (cond b (held-too m p) m .held) (cond b (held-too m p) m .n) xs) [
+        elim (isOk (hold-answer m p)) as (λ b. OwnOk (cond b (held-too m p) m .held) (cond b (held-too m p) m .n) xs) [
           | true ↦ record {
-            free = λ q h. or-from (eqb q p) (m .held q) (ne-eqb q p (λ e. both-ways (within xs p) out (ap (within xs) (sym e) ∙ h))) (ok .free q h);
+            apart = ok .apart;
+            fresh = λ q h. or-from (eqb q p) (m .held q) (ne-eqb q p (λ e. both-ways (within xs p) out (ap (within xs) (sym e) ∙ h))) (ok .fresh q h);
             inside = ok .inside;
           }
           | false ↦ ok
@@ -70,10 +72,11 @@ module _ {L : Type 0} (m : Meaning L) (xs : List ℕ) (p : ℕ) where
         ∙ ap (λ r. cond (isOk (hold-answer (held-over xs m) p)) r (held-over xs m)) e
 
   -- lift, from the layer's own list
-  module _ (ok : Fresh (m .held) (m .n) xs) (apart : once xs ≡ true) (there : within xs p ≡ true) where
-    pub out-ok : Fresh (m .held) (m .n) (without p xs)
+  module _ (ok : OwnOk (m .held) (m .n) xs) (there : within xs p ≡ true) where
+    pub out-ok : OwnOk (m .held) (m .n) (without p xs)
     out-ok = record {
-      free = λ q h. ok .free q (and-parts (not (eqb q p)) (within xs q) (sym (within-without p xs q) ∙ h) .1);
+      apart = once-without p xs (ok .apart);
+      fresh = λ q h. ok .fresh q (and-parts (not (eqb q p)) (within xs q) (sym (within-without p xs q) ∙ h) .1);
       inside = λ q h. ok .inside q (and-parts (not (eqb q p)) (within xs q) (sym (within-without p xs q) ∙ h) .1);
     }
 
@@ -82,19 +85,20 @@ module _ {L : Type 0} (m : Meaning L) (xs : List ℕ) (p : ℕ) where
 
     pub lift-out : length xs ≤ 32 → held-over (without p xs) m ≡ lift-leaves (held-over xs m) p
     lift-out few =
-        let held : _≡_ {A = ℕ → Bool} (λ q. within (without p xs) q || m .held q) (λ q. not (eqb q p) && (within xs q || m .held q)) = fun-ext (λ q. ap (λ b. b || m .held q) (within-without p xs q) ∙ not-out (eqb q p) (within xs q) (m .held q) (λ e. ap (m .held) (eqb-true q p e) ∙ ok .free p there)) in
-        let shorter = length-without p xs apart there in
+        let held : _≡_ {A = ℕ → Bool} (λ q. within (without p xs) q || m .held q) (λ q. not (eqb q p) && (within xs q || m .held q)) = fun-ext (λ q. ap (λ b. b || m .held q) (within-without p xs q) ∙ not-out (eqb q p) (within xs q) (m .held q) (λ e. ap (m .held) (eqb-true q p e) ∙ ok .fresh p there)) in
+        let shorter = length-without p xs (ok .apart) there in
         let holds : (32 - length (without p xs)) + m .holds ≡ ((32 - length xs) + m .holds) + 1 = omega arith in
         let e : held-over (without p xs) m ≡ lifted (held-over xs m) p = λ i. record { n = m .n; stock = m .stock; places = m .places; sealed = m .sealed; held = held i; holds = holds i } in
         e ∙ sym (ap (λ r. cond (isOk r) (lifted (held-over xs m) p) (held-over xs m)) lift-taken)
 
   -- lift, passed down
-  module _ (ok : Fresh (m .held) (m .n) xs) (out : within xs p ≡ false) where
-    pub let-ok : Fresh (lift-leaves m p .held) (lift-leaves m p .n) xs
+  module _ (ok : OwnOk (m .held) (m .n) xs) (out : within xs p ≡ false) where
+    pub let-ok : OwnOk (lift-leaves m p .held) (lift-leaves m p .n) xs
     let-ok =
-        elim (isOk (lift-answer m p)) as (λ b. Fresh (cond b (lifted m p) m .held) (cond b (lifted m p) m .n) xs) [
+        elim (isOk (lift-answer m p)) as (λ b. OwnOk (cond b (lifted m p) m .held) (cond b (lifted m p) m .n) xs) [
           | true ↦ record {
-            free = λ q h. and-right (not (eqb q p)) (m .held q) (ok .free q h);
+            apart = ok .apart;
+            fresh = λ q h. and-right (not (eqb q p)) (m .held q) (ok .fresh q h);
             inside = ok .inside;
           }
           | false ↦ ok

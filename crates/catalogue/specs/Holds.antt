@@ -5,16 +5,17 @@ use mathlib.Core.List.{List}
 use Prim.Native.Nat.{ℕ, _+_, _-_, _<_}
 use lib.ListN.{length, take}
 use Rattle.catalogue.specs.Meanings.{Meaning}
-use Rattle.catalogue.specs.Lists.{within}
-use Rattle.catalogue.specs.declared.held_list.HeldList.{HeldList}
+use Rattle.catalogue.specs.Lists.{within, once}
+use Rattle.catalogue.specs.declared.holds.HeldList.{HeldList}
 
 -- the packages of the list
 abbrev pub packages : HeldList → List ℕ
 packages h = take (h .len) (h .list)
 
--- none of the list is held below, or n or more
-pub record Fresh (held : ℕ → Bool) (n : ℕ) (xs : List ℕ) : Type 0 where
-  pub free : (p : ℕ) → within xs p ≡ true → held p ≡ false
+-- none is twice in the list, held below, or n or more
+pub record OwnOk (held : ℕ → Bool) (n : ℕ) (xs : List ℕ) : Type 0 where
+  pub apart : once xs ≡ true
+  pub fresh : (p : ℕ) → within xs p ≡ true → held p ≡ false
   pub inside : (p : ℕ) → within xs p ≡ true → p < n
 
 -- what the layer means with these packages over m

@@ -5,8 +5,9 @@ ghost use mathlib.Core.List.{[]};
 ghost use Rattle.std.specs.declared.result.Result.the-variants.{Ok, Err};
 ghost use Rattle.catalogue.specs.Refusals.{answer};
 ghost use Rattle.catalogue.specs.Calls.{outside};
-ghost use Rattle.catalogue.specs.Holds.{packages, Fresh, held-over};
-use crate::held_list::HeldList;
+ghost use Prim.Native.Nat.{_≤_};
+ghost use Rattle.catalogue.specs.Holds.{packages, OwnOk, held-over};
+use crate::holds::HeldList;
 use crate::interface::Catalogue;
 use crate::interface::Layer;
 use crate::refusal::Refusal;
@@ -32,7 +33,7 @@ pub impl<C: Catalogue> Catalogue for Holding<C> as HoldingCatalogue {
 
     ghost meaning = { λ s. held-over (packages (s .own)) (C·Catalogue .meaning (s .below)) };
 
-    ghost valid = { λ s. C·Catalogue .valid (s .below) × Fresh (C·Catalogue .meaning (s .below) .held) (C·Catalogue .meaning (s .below) .n) (packages (s .own)) };
+    ghost valid = { λ s. C·Catalogue .valid (s .below) × (s .own .len ≤ 32) × OwnOk (C·Catalogue .meaning (s .below) .held) (C·Catalogue .meaning (s .below) .n) (packages (s .own)) };
 
     fn n(&self) -> u32 {
         self.below.n()
@@ -98,7 +99,8 @@ pub impl<C: Catalogue> Catalogue for Holding<C> as HoldingCatalogue {
 
 // The checks of `hold`, but for the holds left.
 fn check_hold<C: Catalogue>(own: &HeldList, below: &C, p: u32) -> Result<(), Refusal>
-    requires { ⌜ C·Catalogue .valid (now below) ⌝ }
+    requires few { ⌜ now own .len ≤ 32 ⌝ }
+    requires valid { ⌜ C·Catalogue .valid (now below) ⌝ }
     ensures { λ r. ⌜ answer r ≡ cond (outside (C·Catalogue .meaning (now (below .entry))) p) (Err 6) (cond (held-over (packages (now (own .entry))) (C·Catalogue .meaning (now (below .entry))) .held p) (Err 10) (Ok tt)) ⌝ }
 {
     if p >= below.n() {

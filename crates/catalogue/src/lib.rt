@@ -1,6 +1,5 @@
 // Catalogues of packages and the arcs between them, and layers over catalogues.
 mod call;
-mod held_list;
 mod holding;
 mod holds;
 mod interface;

@@ -2,3 +2,4 @@
 mod arc;
 
 pub use arc::Arc;
+pub use arc::ArcClone;

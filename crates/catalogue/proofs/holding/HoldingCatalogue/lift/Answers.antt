@@ -2,7 +2,7 @@ use native.Mathlib.Omega.{arith}
 use mathlib.Core.Path.{_≡_, sym, ap, subst, _∙_}
 use Prim.Native.Nat.{_≤_}
 use lib.ListN.{length, length-take}
-use Rattle.catalogue.specs.Holds.{packages, Fresh, held-over}
+use Rattle.catalogue.specs.Holds.{packages, OwnOk, held-over}
 use Rattle.catalogue.proofs.Listed.{without-none}
 use Rattle.catalogue.proofs.Held.{out-ok, lift-taken, lift-out, let-ok, lift-same, lift-passed}
 use Rattle.catalogue.proofs.holding.HoldingCatalogue.lift.Needs as need
@@ -13,15 +13,15 @@ returns-then-remove g c =
     let m = g .C·Catalogue .meaning (s .below) in
     let xs = packages (s .own) in
     let p = c .args .p in
-    let few = s .own .few in
+    let few = c .pre .1 in
     let long = length-take (s .own .len) (s .own .list) in
     let short : length xs ≤ 32 = omega arith in
     let there = sym (c .remove .ensures .found) ∙ c .if-remove .taken in
     let e = c .remove .ensures .rest in
     record {
-      stays = (c .pre .0, subst (Fresh (m .held) (m .n)) (sym e) (out-ok m xs p (c .pre .1) (s .own .apart) there));
-      answers = sym (lift-taken m xs p (c .pre .1) (s .own .apart) there);
-      leaves = ap (λ ys. held-over ys m) e ∙ lift-out m xs p (c .pre .1) (s .own .apart) there short;
+      stays = (c .pre .0, c .remove .ensures .few, subst (OwnOk (m .held) (m .n)) (sym e) (out-ok m xs p (c .pre .2) there));
+      answers = sym (lift-taken m xs p (c .pre .2) there);
+      leaves = ap (λ ys. held-over ys m) e ∙ lift-out m xs p (c .pre .2) there short;
     }
 
 pub returns : need.returns
@@ -35,7 +35,7 @@ returns g c =
     let d = c .lift .ensures in
     let after = g .C·Catalogue .meaning (c .lift .last .self) in
     record {
-      stays = (d .stays, subst (Fresh (after .held) (after .n)) (sym e) (subst (λ k. Fresh (k .held) (k .n) xs) (sym (d .leaves)) (let-ok m xs p (c .pre .1) out)));
-      answers = d .answers ∙ lift-same m xs p (c .pre .1) out;
-      leaves = ap (λ ys. held-over ys after) e ∙ ap (held-over xs) (d .leaves) ∙ lift-passed m xs p (c .pre .1) out;
+      stays = (d .stays, c .remove .ensures .few, subst (OwnOk (after .held) (after .n)) (sym e) (subst (λ k. OwnOk (k .held) (k .n) xs) (sym (d .leaves)) (let-ok m xs p (c .pre .2) out)));
+      answers = d .answers ∙ lift-same m xs p (c .pre .2) out;
+      leaves = ap (λ ys. held-over ys after) e ∙ ap (held-over xs) (d .leaves) ∙ lift-passed m xs p (c .pre .2) out;
     }

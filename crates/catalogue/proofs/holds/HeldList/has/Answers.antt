@@ -5,7 +5,7 @@ use lib.Dec.{eqb}
 use Rattle.std.proofs.shelf.Tests.{ne-eqb, or-from}
 use Rattle.catalogue.specs.Lists.{within}
 use Rattle.catalogue.proofs.Listed.{within-front, within-more}
-use Rattle.catalogue.proofs.held_list.HeldList.has.Needs as need
+use Rattle.catalogue.proofs.holds.HeldList.has.Needs as need
 
 pub returns-then-self-i : need.returns-then-self-i
 returns-then-self-i c = sym (within-front (c .args .self .now .list) (c .args .self .now .len) (c .loop-i .i) (c .args .p) (omega arith) (omega arith) (c .if-self-i .taken))

@@ -1,0 +1,4 @@
+pub mod Exact
+pub mod Fields
+pub mod Numbers
+pub mod Pushed

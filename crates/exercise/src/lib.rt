@@ -1,0 +1,11 @@
+// Every make of catalogue made, asked and called, with what it answers: no contract of the
+// catalogues is empty.
+mod answers;
+mod asking;
+mod stacks;
+
+pub use answers::Answers;
+pub use answers::Arguments;
+pub use asking::exercise;
+pub use stacks::exercise_ledger;
+pub use stacks::exercise_ledger_under_four_layers;
