@@ -6,3 +6,5 @@ pub mod Turns
 pub mod Lists
 pub mod Holds
 pub mod Runs
+pub mod SheetMeanings
+pub mod Makings

@@ -9,7 +9,8 @@ ghost use Rattle.std.specs.shelf.Lists.{kept-by};
 ghost use Rattle.paths.specs.Arcs.{between, elsewhere};
 ghost use Rattle.catalogue.specs.Refusals.{answer};
 ghost use Rattle.catalogue.specs.Calls.{admit-answer};
-ghost use Rattle.catalogue.specs.Ledgers.{ledger, LedgerOk, ledger-made};
+ghost use Rattle.catalogue.specs.Ledgers.{ledger, LedgerOk};
+ghost use Rattle.catalogue.specs.Makings.{ledger-of, first-meaning};
 use crate::interface::Catalogue;
 use crate::interface::Make;
 use crate::refusal::Refusal;
@@ -39,7 +40,7 @@ pub struct Blank<'a, K: Label> {
 }
 
 pub impl<'a, K: Label> Make<Blank<'a, K>> for Ledger<'a, K> as LedgerMake {
-    ghost first = { λ s. ledger-made (s .n) (length (now (s .arcs))) };
+    ghost first = { λ s. first-meaning (K·Label .ops) (K·Label .named) (ledger-of (s .n) (length (now (s .arcs)))) };
 
     fn make(source: Blank<'a, K>) -> Result<Ledger<'a, K>, Refusal> {
         let Blank { n, arcs } = source;

@@ -1,0 +1,10 @@
+pub mod Checks
+pub mod Pairs
+pub mod Stock
+pub mod Passes
+pub mod Stages
+pub mod Fields
+pub mod Written
+pub mod Accepted
+pub mod Unread
+pub mod Unique
