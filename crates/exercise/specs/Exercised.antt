@@ -4,6 +4,7 @@ use mathlib.Core.List.{List, [], _∷_}
 use Prim.Native.Nat.{ℕ}
 use lib.ListN.{length}
 use lib.Dec.{ltb}
+use Rattle.std.specs.declared.option.Option.{Option}
 use Rattle.std.specs.declared.result.Result.{Result}
 use Rattle.std.specs.declared.result.Result.the-variants.{Ok, Err}
 use Rattle.labels.specs.Algebra.{Ops}
@@ -14,6 +15,7 @@ use Rattle.catalogue.specs.Refusals.{number, answer}
 use Rattle.catalogue.specs.Meanings.{Meaning}
 use Rattle.catalogue.specs.Calls.{arc-at, admit-answer, hold-answer, lift-answer, withdraw-answer}
 use Rattle.catalogue.specs.Runs.{reckon}
+use Rattle.catalogue.specs.Makings.{Making, first-meaning}
 use Rattle.exercise.specs.declared.answers.Arguments.{Arguments}
 use Rattle.exercise.specs.declared.answers.Answers.{Answers}
 
@@ -38,9 +40,12 @@ module _ {L : Type 0} (o : Ops L) where
     pub lift : answer (r .lift) ≡ lift-answer (reckon o m (admits w ∷ Hold (w .package) ∷ [])) (w .package)
     pub withdraw : answer (r .withdraw) ≡ withdraw-answer (reckon o m (admits w ∷ Hold (w .package) ∷ Lift (w .package) ∷ [])) (w .from) (w .to)
 
-  -- made and exercised as the first meaning says, or refused with its number
-  abbrev pub FromMaking : Result (Meaning L) ℕ → Arguments L → Result (Answers L) Refusal → Type 0
-  FromMaking (Ok m) w (Ok r) = Exercised m w r
-  FromMaking (Ok m) w (Err e) = ⊥
-  FromMaking (Err k) w (Ok r) = ⊥
-  FromMaking (Err k) w (Err e) = number e ≡ k
+  -- exercised as that first meaning says, or refused with its number
+  abbrev pub FromFirst : Result (Meaning L) ℕ → Arguments L → Result (Answers L) Refusal → Type 0
+  FromFirst (Ok m) w (Ok r) = Exercised m w r
+  FromFirst (Ok m) w (Err e) = ⊥
+  FromFirst (Err k) w (Ok r) = ⊥
+  FromFirst (Err k) w (Err e) = number e ≡ k
+
+  abbrev pub FromMaking : (ℕ → Option L) → Making → Arguments L → Result (Answers L) Refusal → Type 0
+  FromMaking named making w r = FromFirst (first-meaning o named making) w r

@@ -1,11 +1,7 @@
-// Makes and stacks, from their making on.
+// Each make, and a stack of four layers, from the making on.
 ghost use mathlib.Core.Path.{_≡_};
-ghost use mathlib.Core.List.{[]};
 ghost use lib.ListN.{length};
-ghost use Rattle.catalogue.specs.Refusals.{on-ok};
-ghost use Rattle.catalogue.specs.Ledgers.{ledger-made};
-ghost use Rattle.catalogue.specs.Turns.{turned};
-ghost use Rattle.catalogue.specs.Holds.{held-over};
+ghost use Rattle.catalogue.specs.Makings.{ledger-of, sheet-of, turned-over, holding-over};
 ghost use Rattle.exercise.specs.Exercised.{FromMaking};
 use crate::answers::Answers;
 use crate::answers::Arguments;
@@ -20,6 +16,9 @@ use catalogue::LedgerCatalogue;
 use catalogue::LedgerMake;
 use catalogue::Make;
 use catalogue::Refusal;
+use catalogue::Sheet;
+use catalogue::SheetCatalogue;
+use catalogue::SheetMake;
 use catalogue::Turned;
 use catalogue::TurnedCatalogue;
 use catalogue::TurnedLayer;
@@ -27,16 +26,42 @@ use labels::Label;
 use paths::Arc;
 
 pub fn exercise_ledger<K: Label>(n: u32, arcs: &mut [Arc<K>], with: Arguments<K>) -> Result<Answers<K>, Refusal>
-    ensures { λ r. ⌜ FromMaking (K·Label .ops) (ledger-made n (length (now (arcs .entry)))) with r ⌝ }
+    ensures { λ r. ⌜ FromMaking (K·Label .ops) (K·Label .named) (ledger-of n (length (now (arcs .entry)))) with r ⌝ }
 {
     let mut ledger = Ledger::make(Blank { n, arcs })?;
     Ok(exercise(&mut ledger, with))
 }
 
-pub fn exercise_ledger_under_four_layers<K: Label>(n: u32, arcs: &mut [Arc<K>], with: Arguments<K>) -> Result<Answers<K>, Refusal>
-    ensures { λ r. ⌜ FromMaking (K·Label .ops) (on-ok (held-over []) (on-ok turned (on-ok (held-over []) (on-ok turned (ledger-made n (length (now (arcs .entry)))))))) with r ⌝ }
+pub fn exercise_sheet<K: Label>(bytes: &[u8], with: Arguments<K>) -> Result<Answers<K>, Refusal>
+    ensures { λ r. ⌜ FromMaking (K·Label .ops) (K·Label .named) (sheet-of (now (bytes .entry))) with r ⌝ }
+{
+    let mut sheet = Sheet::<K>::make(bytes)?;
+    Ok(exercise(&mut sheet, with))
+}
+
+pub fn exercise_turned<K: Label>(n: u32, arcs: &mut [Arc<K>], with: Arguments<K>) -> Result<Answers<K>, Refusal>
+    ensures { λ r. ⌜ FromMaking (K·Label .ops) (K·Label .named) (turned-over (ledger-of n (length (now (arcs .entry))))) with r ⌝ }
 {
     let ledger = Ledger::make(Blank { n, arcs })?;
-    let mut top = Holding::over(Turned::over(Holding::over(Turned::over(ledger))));
+    let mut turned = Turned::over(ledger);
+    Ok(exercise(&mut turned, with))
+}
+
+pub fn exercise_holding<K: Label>(n: u32, arcs: &mut [Arc<K>], with: Arguments<K>) -> Result<Answers<K>, Refusal>
+    ensures { λ r. ⌜ FromMaking (K·Label .ops) (K·Label .named) (holding-over (ledger-of n (length (now (arcs .entry))))) with r ⌝ }
+{
+    let ledger = Ledger::make(Blank { n, arcs })?;
+    let mut holding = Holding::over(ledger);
+    Ok(exercise(&mut holding, with))
+}
+
+pub fn exercise_four_layers<K: Label>(n: u32, arcs: &mut [Arc<K>], with: Arguments<K>) -> Result<Answers<K>, Refusal>
+    ensures { λ r. ⌜ FromMaking (K·Label .ops) (K·Label .named) (holding-over (turned-over (holding-over (turned-over (ledger-of n (length (now (arcs .entry)))))))) with r ⌝ }
+{
+    let ledger = Ledger::make(Blank { n, arcs })?;
+    let turned = Turned::over(ledger);
+    let holding = Holding::over(turned);
+    let again = Turned::over(holding);
+    let mut top = Holding::over(again);
     Ok(exercise(&mut top, with))
 }
