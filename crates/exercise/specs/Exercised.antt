@@ -17,6 +17,8 @@ use Rattle.catalogue.specs.Calls.{arc-at, admit-answer, hold-answer, lift-answe
 use Rattle.catalogue.specs.Runs.{reckon}
 use Rattle.catalogue.specs.Makings.{Making, first-meaning}
 use Rattle.exercise.specs.declared.answers.Arguments.{Arguments}
+use Rattle.exercise.specs.declared.answers.Replies.{Replies}
+use Rattle.exercise.specs.declared.answers.Outcomes.{Outcomes}
 use Rattle.exercise.specs.declared.answers.Answers.{Answers}
 
 module _ {L : Type 0} (o : Ops L) where
@@ -27,7 +29,7 @@ module _ {L : Type 0} (o : Ops L) where
   abbrev pub calls : Arguments L → List (Call L)
   calls w = admits w ∷ Hold (w .package) ∷ Lift (w .package) ∷ Withdraw (w .from) (w .to) ∷ []
 
-  pub record Exercised (m : Meaning L) (w : Arguments L) (r : Answers L) : Type 0 where
+  pub record Asked (m : Meaning L) (w : Arguments L) (r : Replies L) : Type 0 where
     pub n : r .n ≡ m .n
     pub stock-len : r .«stock_len» ≡ length (m .stock)
     pub places-left : r .«places_left» ≡ m .places
@@ -35,10 +37,16 @@ module _ {L : Type 0} (o : Ops L) where
     pub is-held : r .«is_held» ≡ m .held (w .package)
     pub can-hold : r .«can_hold» ≡ ltb 0 (m .holds)
     pub arc : r .arc ≡ arc-at m (w .place)
+
+  pub record Called (m : Meaning L) (w : Arguments L) (r : Outcomes) : Type 0 where
     pub admit : answer (r .admit) ≡ admit-answer o m (w .from) (w .to) (w .label)
     pub hold : answer (r .hold) ≡ hold-answer (reckon o m (admits w ∷ [])) (w .package)
     pub lift : answer (r .lift) ≡ lift-answer (reckon o m (admits w ∷ Hold (w .package) ∷ [])) (w .package)
     pub withdraw : answer (r .withdraw) ≡ withdraw-answer (reckon o m (admits w ∷ Hold (w .package) ∷ Lift (w .package) ∷ [])) (w .from) (w .to)
+
+  pub record Exercised (m : Meaning L) (w : Arguments L) (r : Answers L) : Type 0 where
+    pub asked : Asked m w (r .replies)
+    pub called : Called m w (r .outcomes)
 
   -- exercised as that first meaning says, or refused with its number
   abbrev pub FromFirst : Result (Meaning L) ℕ → Arguments L → Result (Answers L) Refusal → Type 0

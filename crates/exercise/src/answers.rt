@@ -12,10 +12,9 @@ pub struct Arguments<K> {
     pub place: usize,
 }
 
-// The answers to every question, and then to one call of each sort, in the order in which they were
-// made.
+// The answers to every question.
 #[derive(Clone, Copy)]
-pub struct Answers<K> {
+pub struct Replies<K> {
     pub n: u32,
     pub stock_len: usize,
     pub places_left: usize,
@@ -23,8 +22,19 @@ pub struct Answers<K> {
     pub is_held: bool,
     pub can_hold: bool,
     pub arc: Option<Arc<K>>,
+}
+
+// The answers to one call of each sort, in the order in which they were made.
+#[derive(Clone, Copy)]
+pub struct Outcomes {
     pub admit: Result<(), Refusal>,
     pub hold: Result<(), Refusal>,
     pub lift: Result<(), Refusal>,
     pub withdraw: Result<usize, Refusal>,
+}
+
+#[derive(Clone, Copy)]
+pub struct Answers<K> {
+    pub replies: Replies<K>,
+    pub outcomes: Outcomes,
 }

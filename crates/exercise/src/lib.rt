@@ -6,6 +6,10 @@ mod stacks;
 
 pub use answers::Answers;
 pub use answers::Arguments;
+pub use answers::Outcomes;
+pub use answers::Replies;
+pub use asking::ask;
+pub use asking::call_each;
 pub use asking::exercise;
 pub use stacks::exercise_four_layers;
 pub use stacks::exercise_holding;
