@@ -1,12 +1,12 @@
 -- What a ledger means.
-use mathlib.Core.Bool.{Bool, false, _||_, cond}
+use mathlib.Core.Bool.{false, cond}
 use mathlib.Core.List.{List, []}
 use Prim.Native.Nat.{ℕ, _-_, _≤_, min}
-use lib.Dec.{eqb, ltb}
 use lib.ListN.{length, take}
 use Rattle.std.specs.declared.result.Result.{Result}
 use Rattle.std.specs.declared.result.Result.the-variants.{Ok, Err}
 use Rattle.labels.specs.Algebra.{Ops}
+use Rattle.sheets.specs.Sheets.{count-test}
 use Rattle.paths.specs.declared.arc.Arc.{Arc}
 use Rattle.catalogue.specs.Meanings.{Meaning, Sound}
 
@@ -24,4 +24,4 @@ module _ {L : Type 0} where
   blank n places = record { n = n; stock = []; places = places; sealed = false; held = λ _. false; holds = 0 }
 
   abbrev pub ledger-made : ℕ → ℕ → Result (Meaning L) ℕ
-  ledger-made n records = cond (eqb n 0 || ltb 1024 n) (Err 1) (Ok (blank n (min records 65536)))
+  ledger-made n records = cond (count-test n) (Ok (blank n (min records 65536))) (Err 1)

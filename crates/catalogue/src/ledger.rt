@@ -13,16 +13,12 @@ ghost use Rattle.catalogue.specs.Ledgers.{ledger, LedgerOk};
 ghost use Rattle.catalogue.specs.Makings.{ledger-of, first-meaning};
 use crate::interface::Catalogue;
 use crate::interface::Make;
+use crate::limits::MOST_ARCS;
+use crate::limits::count_fits;
 use crate::refusal::Refusal;
 use labels::Constant;
 use labels::Label;
 use paths::Arc;
-
-// The most packages that a catalogue has.
-const MOST_PACKAGES: u32 = 1024;
-
-// The most places that a ledger has.
-const MOST_PLACES: usize = 65536;
 
 // The first `len` records are the stock; the others are free.
 #[derive(Drop)]
@@ -44,10 +40,10 @@ pub impl<'a, K: Label> Make<Blank<'a, K>> for Ledger<'a, K> as LedgerMake {
 
     fn make(source: Blank<'a, K>) -> Result<Ledger<'a, K>, Refusal> {
         let Blank { n, arcs } = source;
-        if n == 0 || n > MOST_PACKAGES {
+        if !count_fits(n) {
             return Err(Refusal::BadCount);
         }
-        let places = arcs.len().min(MOST_PLACES);
+        let places = arcs.len().min(MOST_ARCS);
         let arcs = &mut arcs[0..places];
         Ok(Ledger { n, len: 0, arcs })
     }

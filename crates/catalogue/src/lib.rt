@@ -4,6 +4,7 @@ mod holding;
 mod holds;
 mod interface;
 mod ledger;
+mod limits;
 mod number;
 mod reading;
 mod refusal;

@@ -4,15 +4,13 @@ ghost use mathlib.Core.List.{map};
 ghost use Prim.Native.Nat.{_+_, _*_, _≤_, _<_};
 ghost use lib.ListN.{length};
 ghost use Rattle.std.specs.Vec.{made};
-ghost use Rattle.sheets.specs.Sheets.{word-at, count-of, offset-of, size-of, due as due-at, entry, run-at, entries, first-unmet, count-test, run-test, end-test, pair-checks, entry-check, sheet-check};
+ghost use Rattle.sheets.specs.Sheets.{word-at, count-of, offset-of, size-of, due as due-at, entry, run-at, entries, first-unmet, run-test, end-test, pair-checks, entry-check, sheet-check};
 ghost use Rattle.catalogue.specs.SheetMeanings.{verdict, labelled};
+use crate::limits::MOST_ARCS;
+use crate::limits::count_fits;
 use crate::refusal::Refusal;
 use labels::Label;
 use paths::Arc;
-
-const MOST_PACKAGES: u32 = 1024;
-
-const MOST_ARCS: usize = 65536;
 
 // The field of these four bytes.
 fn lowest_first(a: u8, b: u8, c: u8, d: u8) -> u32
@@ -58,12 +56,6 @@ pub fn place_of(n: u32, k: usize) -> usize
     ensures { λ r. ⌜ r ≡ 4 + 8 * n + 8 * k ⌝ }
 {
     pair_at(n) + 8 * k
-}
-
-fn count_fits(n: u32) -> bool
-    ensures { λ r. ⌜ r ≡ count-test n ⌝ }
-{
-    1 <= n && n <= MOST_PACKAGES
 }
 
 // Does the run stand where it is due, with whole arcs, inside the sheet?

@@ -86,7 +86,12 @@ fn turned_arc<K: Label>(arc: Option<Arc<K>>) -> Option<Arc<K>>
 }
 
 // Admits the arc below with its ends exchanged.
-fn admit_turned<C: Catalogue>(below: &mut C, from: u32, to: u32, label: C::Label) -> Result<(), Refusal>
+fn admit_turned<C: Catalogue>(
+    below: &mut C,
+    from: u32,
+    to: u32,
+    label: C::Label,
+) -> Result<(), Refusal>
     requires { ⌜ C·Catalogue .valid (now below) ⌝ }
     ensures stays { λ _. ⌜ C·Catalogue .valid (now (below .exit)) ⌝ }
     ensures answers { λ r. ⌜ answer r ≡ admit-answer (Label·Label .ops) (C·Catalogue .meaning (now (below .entry))) to from label ⌝ }

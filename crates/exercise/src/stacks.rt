@@ -25,7 +25,11 @@ use catalogue::TurnedLayer;
 use labels::Label;
 use paths::Arc;
 
-pub fn exercise_ledger<K: Label>(n: u32, arcs: &mut [Arc<K>], with: Arguments<K>) -> Result<Answers<K>, Refusal>
+pub fn exercise_ledger<K: Label>(
+    n: u32,
+    arcs: &mut [Arc<K>],
+    with: Arguments<K>,
+) -> Result<Answers<K>, Refusal>
     ensures { λ r. ⌜ FromMaking (K·Label .ops) (K·Label .named) (ledger-of n (length (now (arcs .entry)))) with r ⌝ }
 {
     let mut ledger = Ledger::make(Blank { n, arcs })?;
@@ -39,7 +43,11 @@ pub fn exercise_sheet<K: Label>(bytes: &[u8], with: Arguments<K>) -> Result<Answ
     Ok(exercise(&mut sheet, with))
 }
 
-pub fn exercise_turned<K: Label>(n: u32, arcs: &mut [Arc<K>], with: Arguments<K>) -> Result<Answers<K>, Refusal>
+pub fn exercise_turned<K: Label>(
+    n: u32,
+    arcs: &mut [Arc<K>],
+    with: Arguments<K>,
+) -> Result<Answers<K>, Refusal>
     ensures { λ r. ⌜ FromMaking (K·Label .ops) (K·Label .named) (turned-over (ledger-of n (length (now (arcs .entry))))) with r ⌝ }
 {
     let ledger = Ledger::make(Blank { n, arcs })?;
@@ -47,7 +55,11 @@ pub fn exercise_turned<K: Label>(n: u32, arcs: &mut [Arc<K>], with: Arguments<K>
     Ok(exercise(&mut turned, with))
 }
 
-pub fn exercise_holding<K: Label>(n: u32, arcs: &mut [Arc<K>], with: Arguments<K>) -> Result<Answers<K>, Refusal>
+pub fn exercise_holding<K: Label>(
+    n: u32,
+    arcs: &mut [Arc<K>],
+    with: Arguments<K>,
+) -> Result<Answers<K>, Refusal>
     ensures { λ r. ⌜ FromMaking (K·Label .ops) (K·Label .named) (holding-over (ledger-of n (length (now (arcs .entry))))) with r ⌝ }
 {
     let ledger = Ledger::make(Blank { n, arcs })?;
@@ -55,7 +67,11 @@ pub fn exercise_holding<K: Label>(n: u32, arcs: &mut [Arc<K>], with: Arguments<K
     Ok(exercise(&mut holding, with))
 }
 
-pub fn exercise_four_layers<K: Label>(n: u32, arcs: &mut [Arc<K>], with: Arguments<K>) -> Result<Answers<K>, Refusal>
+pub fn exercise_four_layers<K: Label>(
+    n: u32,
+    arcs: &mut [Arc<K>],
+    with: Arguments<K>,
+) -> Result<Answers<K>, Refusal>
     ensures { λ r. ⌜ FromMaking (K·Label .ops) (K·Label .named) (holding-over (turned-over (holding-over (turned-over (ledger-of n (length (now (arcs .entry)))))))) with r ⌝ }
 {
     let ledger = Ledger::make(Blank { n, arcs })?;

@@ -23,9 +23,11 @@ pub struct Entire;
 // A path algebra: `join` chooses between chains, `extend` follows one by another.
 pub trait Label: Copy {
     type Absent: Constant<Self>;
+
     type Entire: Constant<Self>;
 
     const NONE: Self::Absent;
+
     const WHOLE: Self::Entire;
 
     ghost ops: { Ops Self };

@@ -28,9 +28,11 @@ pub impl Constant<Licence> for Entire as LicenceEntire {
 
 pub impl Label for Licence as LicenceLabel {
     type Absent = Absent;
+
     type Entire = Entire;
 
     const NONE: Absent = Absent;
+
     const WHOLE: Entire = Entire;
 
     ghost ops = { licence-ops };

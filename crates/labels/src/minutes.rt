@@ -30,9 +30,11 @@ pub impl Constant<Minutes> for Entire as MinutesEntire {
 
 pub impl Label for Minutes as MinutesLabel {
     type Absent = Absent;
+
     type Entire = Entire;
 
     const NONE: Absent = Absent;
+
     const WHOLE: Entire = Entire;
 
     ghost ops = { minutes-ops };
@@ -75,13 +77,7 @@ fn total(a: u32, b: u32) -> u32
     ensures { λ r. ⌜ r ≡ sum-or-none (a + b) ⌝ }
 {
     match a.checked_add(b) {
-        Some(sum) => {
-            if sum <= LONGEST {
-                sum
-            } else {
-                u32::MAX
-            }
-        }
+        Some(sum) => { if sum <= LONGEST { sum } else { u32::MAX } }
         None => u32::MAX,
     }
 }

@@ -26,9 +26,11 @@ pub impl Constant<Reach> for Entire as ReachEntire {
 
 pub impl Label for Reach as ReachLabel {
     type Absent = Absent;
+
     type Entire = Entire;
 
     const NONE: Absent = Absent;
+
     const WHOLE: Entire = Entire;
 
     ghost ops = { reach-ops };

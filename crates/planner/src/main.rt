@@ -29,7 +29,11 @@ const PLACES: usize = 512;
 
 fn main(rt: LibcRuntime) -> io::Result<()> {
     let label = Minutes::NONE.label();
-    let mut arcs = [Arc { from: 0, to: 0, label }; PLACES];
+    let mut arcs = [Arc {
+        from: 0,
+        to: 0,
+        label,
+    }; PLACES];
     let mut input = Input::new(rt.stdin());
     let Some(n) = first_size(&rt, &mut input)? else {
         return Ok(());
@@ -58,7 +62,11 @@ fn first_size(rt: &LibcRuntime, input: &mut Input) -> io::Result<Option<u32>> {
 }
 
 // Answers lines until the input ends.
-fn serve<C: Catalogue<Label = Minutes>>(rt: &LibcRuntime, input: &mut Input, catalogue: &mut C) -> io::Result<()>
+fn serve<C: Catalogue<Label = Minutes>>(
+    rt: &LibcRuntime,
+    input: &mut Input,
+    catalogue: &mut C,
+) -> io::Result<()>
     requires { ⌜ C·Catalogue .valid (now catalogue) ⌝ }
 {
     for _ in 0..u64::MAX {

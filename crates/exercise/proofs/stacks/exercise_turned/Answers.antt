@@ -1,8 +1,6 @@
-use mathlib.Core.List.{[]}
 use lib.ListN.{length}
-use Rattle.catalogue.specs.Makings.{Making, ledger-of, turned-over, holding-over, first-meaning}
+use Rattle.catalogue.specs.Makings.{ledger-of, turned-over, first-meaning}
 use Rattle.catalogue.specs.Turns.{turned}
-use Rattle.catalogue.specs.Holds.{held-over}
 use Rattle.exercise.proofs.Stacked.{laid, exercised}
 use Rattle.exercise.proofs.stacks.exercise_turned.Needs as need
 
