@@ -16,6 +16,10 @@ and-comm true false = refl
 and-comm false true = refl
 and-comm false false = refl
 
+pub and-false : (a : Bool) → (a && false) ≡ false
+and-false true = refl
+and-false false = refl
+
 -- a function over a choice
 pub over-cond : {A B : Type 0} (f : A → B) (b : Bool) (x y : A) → f (cond b x y) ≡ cond b (f x) (f y)
 over-cond f true x y = refl

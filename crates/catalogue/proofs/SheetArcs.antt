@@ -1,14 +1,16 @@
 -- What a sheet that meets its checks means.
-use mathlib.Core.Path.{_≡_, refl, ap, ap₂, _∙_, sym}
-use mathlib.Core.Bool.{Bool, true, not, _&&_}
-use mathlib.Core.List.{List, [], _∷_, _++_, map}
-use Prim.Native.Nat.{ℕ, _+_, _*_, _≤_, _<_}
+use mathlib.Core.Path.{_≡_, refl, ap, _∙_, sym}
+use mathlib.Core.Bool.{true, false, not, _&&_}
+use mathlib.Core.List.{List, [], _∷_, map}
+use Prim.Native.Nat.{ℕ, zero, suc, _+_, _*_, _≤_, _<_}
 use native.Mathlib.Omega.{arith}
 use lib.ListN.{length, getD, length-map}
 use lib.Dec.{eqb, ltb}
 use Rattle.std.specs.Options.{isSome, valueOr}
+use Rattle.std.specs.Results.{isOk}
+use Rattle.std.specs.declared.result.Result.{Result}
+use Rattle.std.specs.declared.result.Result.the-variants.{Ok}
 use Rattle.std.specs.shelf.Lists.{All}
-use Rattle.std.proofs.shelf.Lists.{map-append}
 use Rattle.std.proofs.shelf.Maps.{nth-past}
 use Rattle.std.proofs.shelf.Tests.{and-parts, eqb-false, ltb-true, not-true, false≢true}
 use Rattle.std.specs.declared.option.Option.{Option}
@@ -16,16 +18,16 @@ use Rattle.std.specs.declared.option.Option.the-variants.{Some, None}
 use Rattle.labels.specs.Algebra.{Ops, Unnamed}
 use Rattle.paths.specs.Arcs.{arc}
 use Rattle.sheets.specs.Sheets.{word-at, offset-of, count-of, Entry, entry, entries, first-unmet, entry-check, sheet-check}
-use Rattle.sheets.specs.Layout.{Mark, stated-from}
+use Rattle.sheets.specs.Layout.{Mark, States}
 use Rattle.sheets.proofs.Checks.{met-cons, head-met}
 use Rattle.sheets.proofs.Stock.{nth-map}
 use Rattle.sheets.proofs.Passes.{all-met, entry-found, unnamed-not}
 use Rattle.sheets.proofs.Accepted.{accepts, counts, states}
 use Rattle.sheets.proofs.Unread.{runs-of, states-runs}
 use Rattle.sheets.proofs.Unique.{unique}
-use Rattle.catalogue.specs.Meanings.{ArcOk, Sound}
+use Rattle.catalogue.specs.Meanings.{Meaning, ArcOk, Sound}
 use Rattle.catalogue.specs.Calls.{arc-at, unheld}
-use Rattle.catalogue.specs.SheetMeanings.{labelled, arc-of, sheet, arcs-from, Exactly}
+use Rattle.catalogue.specs.SheetMeanings.{labelled, by-number, arc-of, sheet, sheet-made, stated, Exactly}
 
 module _ {L : Type 0} (o : Ops L) (named : ℕ → Option L) (unnamed : Unnamed o named) where
   entry-ok : (n : ℕ) (e : Entry) → entry-check named n e ≡ 0 → ArcOk o n (arc-of named (o .none) e)
@@ -78,21 +80,19 @@ module _ {L : Type 0} (named : ℕ → Option L) (none : L) (bytes : List ℕ) w
     pub arc-past : (k : ℕ) → length (entries bytes) ≤ k → None ≡ arc-at (sheet named none bytes) k
     arc-past k h = sym (ap (unheld (sheet named none bytes)) (nth-past (map (arc-of named none) (entries bytes)) k (simp length-map h)))
 
-  arcs-stated : (p : ℕ) (runs : List (List Mark)) → map (arc-of named none) (stated-from p runs) ≡ arcs-from named none p runs
-  arcs-stated p [] = refl
-  arcs-stated p (run ∷ runs) =
-      map-append (arc-of named none) (map (λ (m : Mark). entry p (m .to) (m .word)) run) (stated-from (p + 1) runs)
-      ∙ ap₂ _++_ (here run) (arcs-stated (p + 1) runs)
-    where
-      here : (r : List Mark) → map (arc-of named none) (map (λ m. entry p (m .to) (m .word)) r) ≡ map (λ m. arc p (m .to) (valueOr (named (m .word)) none)) r
-      here [] = refl
-      here (m ∷ r) = ap (λ xs. arc p (m .to) (valueOr (named (m .word)) none) ∷ xs) (here r)
+  read-zero : (v : ℕ) → isOk (by-number v (sheet named none bytes)) ≡ true → v ≡ 0
+  read-zero zero h = refl
+  read-zero (suc k) h = absurd (false≢true h)
 
-  pub exactly : ((i : ℕ) → getD bytes i 0 < 256) → (accepted : Bool) → (accepted ≡ true → sheet-check named bytes ≡ 0) → (sheet-check named bytes ≡ 0 → accepted ≡ true) → Exactly named none bytes accepted
-  exactly small accepted met taken = record {
-    sound = λ h. (runs-of bytes small, states-runs bytes small named (met h));
-    full = λ runs s. taken (accepts named runs (s .lawful) bytes (s .layout));
+  pub exactly : ((i : ℕ) → getD bytes i 0 < 256) → (told : Result (Meaning L) ℕ) → told ≡ sheet-made named none bytes → Exactly named none bytes told
+  exactly small told e = record {
+    sound = λ h. (runs-of bytes small, states-runs bytes small named (read-zero (sheet-check named bytes) (ap isOk (sym e) ∙ h)));
+    full = λ runs s. e ∙ ap (λ v. by-number v (sheet named none bytes)) (accepts named runs (s .lawful) bytes (s .layout)) ∙ ap Ok (means runs s);
     unique = unique named bytes;
-    count = λ runs s. counts named runs (s .lawful) bytes (s .layout);
-    stock = λ runs s. ap (map (arc-of named none)) (states named runs (s .lawful) bytes (s .layout)) ∙ arcs-stated 0 runs;
   }
+    where
+      means : (runs : List (List Mark)) → States named bytes runs → sheet named none bytes ≡ stated named none runs
+      means runs s =
+          let n = counts named runs (s .lawful) bytes (s .layout) in
+          let stock = ap (map (arc-of named none)) (states named runs (s .lawful) bytes (s .layout)) in
+          λ i. record { n = n i; stock = stock i; places = 0; sealed = true; held = λ _. false; holds = 0 }

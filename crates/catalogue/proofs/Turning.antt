@@ -1,6 +1,6 @@
 -- The calls and questions on a turned meaning.
 use mathlib.Core.Path.{_≡_, refl, ap, _∙_, sym, fun-ext}
-use mathlib.Core.Bool.{Bool, not, _||_, cond}
+use mathlib.Core.Bool.{Bool, not, cond}
 use mathlib.Core.List.{List, [], _∷_, map}
 use Prim.Native.Nat.{ℕ, zero, suc}
 use native.Mathlib.Omega.{arith}
@@ -17,7 +17,7 @@ use Rattle.std.proofs.shelf.Ways.{tells}
 use Rattle.labels.specs.Algebra.{Ops}
 use Rattle.paths.specs.declared.arc.Arc.{Arc}
 use Rattle.paths.specs.Arcs.{arc, between, elsewhere, turn}
-use Rattle.catalogue.specs.Meanings.{Meaning, ArcOk, Sound}
+use Rattle.catalogue.specs.Meanings.{Meaning, ArcOk, Sound, free-ends}
 use Rattle.catalogue.specs.Calls.{arc-at, unheld, matching, outside, admit-answer, admit-leaves, admitted, withdraw-answer, withdraw-leaves, withdrawn}
 use Rattle.catalogue.specs.Turns.{turned}
 use Rattle.catalogue.proofs.Choosing.{or-comm, and-comm, over-cond, kept-by-map}
@@ -26,8 +26,8 @@ module _ {L : Type 0} where
   turn-at : (m : Meaning L) (xs : List (Arc L)) (k : ℕ) → mapped turn (unheld m (nth xs k)) ≡ unheld (turned m) (nth (map turn xs) k)
   turn-at m [] k = refl
   turn-at m (x ∷ xs) zero =
-      over-cond (mapped turn) (m .held (x .from) || m .held (x .to)) None (Some x)
-      ∙ ap (λ b. cond b None (Some (turn x))) (or-comm (m .held (x .from)) (m .held (x .to)))
+      over-cond (mapped turn) (free-ends m x) (Some x) None
+      ∙ ap (λ b. cond (not b) (Some (turn x)) None) (or-comm (m .held (x .from)) (m .held (x .to)))
   turn-at m (x ∷ xs) (suc k) = turn-at m xs k
 
   pub turned-at : (m : Meaning L) (k : ℕ) → mapped turn (arc-at m k) ≡ arc-at (turned m) k

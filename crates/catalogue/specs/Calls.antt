@@ -14,13 +14,13 @@ use Rattle.std.specs.declared.result.Result.the-variants.{Ok, Err}
 use Rattle.labels.specs.Algebra.{Ops}
 use Rattle.paths.specs.declared.arc.Arc.{Arc}
 use Rattle.paths.specs.Arcs.{arc, between, elsewhere}
-use Rattle.catalogue.specs.Meanings.{Meaning}
+use Rattle.catalogue.specs.Meanings.{Meaning, free-ends}
 
 module _ {L : Type 0} where
   -- an arc that stands at a place, if it is in force
   abbrev pub unheld : Meaning L → Option (Arc L) → Option (Arc L)
   unheld m None = None
-  unheld m (Some a) = cond (m .held (a .from) || m .held (a .to)) None (Some a)
+  unheld m (Some a) = cond (free-ends m a) (Some a) None
 
   abbrev pub arc-at : Meaning L → ℕ → Option (Arc L)
   arc-at m k = unheld m (nth (m .stock) k)

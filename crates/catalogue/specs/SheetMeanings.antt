@@ -1,10 +1,11 @@
 -- What a sheet means, and what the reading of one answers.
 use mathlib.Core.Path.{_≡_}
-use mathlib.Core.Bool.{Bool, true, false}
-use mathlib.Core.List.{List, [], _∷_, _++_, map}
-use Prim.Native.Nat.{ℕ, zero, suc, _+_}
+use mathlib.Core.Bool.{true, false}
+use mathlib.Core.List.{List, map}
+use Prim.Native.Nat.{ℕ, zero, suc}
 use lib.ListN.{length}
 use Rattle.std.specs.Options.{valueOr}
+use Rattle.std.specs.Results.{isOk}
 use Rattle.std.specs.declared.option.Option.{Option}
 use Rattle.std.specs.declared.option.Option.the-variants.{Some, None}
 use Rattle.std.specs.declared.result.Result.{Result}
@@ -12,7 +13,7 @@ use Rattle.std.specs.declared.result.Result.the-variants.{Ok, Err}
 use Rattle.paths.specs.declared.arc.Arc.{Arc}
 use Rattle.paths.specs.Arcs.{arc}
 use Rattle.sheets.specs.Sheets.{Entry, count-of, entries, sheet-check}
-use Rattle.sheets.specs.Layout.{Mark, States}
+use Rattle.sheets.specs.Layout.{Mark, States, stated-from}
 use Rattle.catalogue.specs.Refusals.{Refusal, number}
 use Rattle.catalogue.specs.Meanings.{Meaning}
 
@@ -49,15 +50,12 @@ module _ {L : Type 0} where
       abbrev pub sheet-made : List ℕ → Result (Meaning L) ℕ
       sheet-made bytes = by-number (sheet-check named bytes) (sheet bytes)
 
-      -- the arcs of runs in order, those of package p first
-      abbrev pub arcs-from : ℕ → List (List Mark) → List (Arc L)
-      arcs-from p [] = []
-      arcs-from p (run ∷ runs) = map (λ m. arc p (m .to) (valueOr (named (m .word)) none)) run ++ arcs-from (p + 1) runs
+      -- what runs state: as many packages as runs, and the arcs of the runs in order
+      abbrev pub stated : List (List Mark) → Meaning L
+      stated runs = record { n = length runs; stock = map arc-of (stated-from 0 runs); places = 0; sealed = true; held = λ _. false; holds = 0 }
 
-      -- the reading accepts exactly the sheets of lawful runs, and means the arcs of those
-      pub record Exactly (bytes : List ℕ) (accepted : Bool) : Type 0 where
-        pub sound : accepted ≡ true → (runs : List (List Mark)) × States named bytes runs
-        pub full : (runs : List (List Mark)) → States named bytes runs → accepted ≡ true
+      -- the reading accepts exactly the sheets of lawful runs, which are unique, and then means what they state
+      pub record Exactly (bytes : List ℕ) (told : Result (Meaning L) ℕ) : Type 0 where
+        pub sound : isOk told ≡ true → (runs : List (List Mark)) × States named bytes runs
+        pub full : (runs : List (List Mark)) → States named bytes runs → told ≡ Ok (stated runs)
         pub unique : (xs ys : List (List Mark)) → States named bytes xs → States named bytes ys → xs ≡ ys
-        pub count : (runs : List (List Mark)) → States named bytes runs → sheet bytes .n ≡ length runs
-        pub stock : (runs : List (List Mark)) → States named bytes runs → sheet bytes .stock ≡ arcs-from 0 runs

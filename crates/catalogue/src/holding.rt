@@ -1,12 +1,15 @@
 // A layer with holds of its own.
 ghost use mathlib.Core.Path.{_≡_};
-ghost use mathlib.Core.Bool.{cond};
-ghost use mathlib.Core.List.{[]};
+ghost use mathlib.Core.Bool.{cond, _&&_};
+ghost use mathlib.Core.List.{[], _∷_, _++_};
 ghost use Rattle.std.specs.declared.result.Result.the-variants.{Ok, Err};
 ghost use Rattle.catalogue.specs.Refusals.{answer};
-ghost use Rattle.catalogue.specs.Calls.{outside};
-ghost use Prim.Native.Nat.{_≤_};
-ghost use Rattle.catalogue.specs.Holds.{packages, OwnOk, held-over};
+ghost use Rattle.catalogue.specs.Calls.{outside, hold-answer, hold-leaves};
+ghost use Prim.Native.Nat.{_≤_, _-_};
+ghost use lib.ListN.{length};
+ghost use lib.Dec.{ltb};
+ghost use Rattle.std.specs.Results.{isOk};
+ghost use Rattle.catalogue.specs.Holds.{packages, HoldingOk, held-over};
 use crate::holds::HeldList;
 use crate::interface::Catalogue;
 use crate::interface::Layer;
@@ -33,7 +36,7 @@ pub impl<C: Catalogue> Catalogue for Holding<C> as HoldingCatalogue {
 
     ghost meaning = { λ s. held-over (packages (s .own)) (C·Catalogue .meaning (s .below)) };
 
-    ghost valid = { λ s. C·Catalogue .valid (s .below) × (s .own .len ≤ 32) × OwnOk (C·Catalogue .meaning (s .below) .held) (C·Catalogue .meaning (s .below) .n) (packages (s .own)) };
+    ghost valid = { λ s. HoldingOk (C·Catalogue .valid (s .below)) (C·Catalogue .meaning (s .below)) (s .own) };
 
     fn n(&self) -> u32 {
         self.below.n()
@@ -80,7 +83,14 @@ pub impl<C: Catalogue> Catalogue for Holding<C> as HoldingCatalogue {
         self.below.withdraw(from, to)
     }
 
-    fn hold(&mut self, p: u32) -> Result<(), Refusal> {
+    // Uses the list while it has room, then passes down.
+    fn hold(&mut self, p: u32) -> Result<(), Refusal>
+        requires { ⌜ HoldingOk (C·Catalogue .valid (now self .below)) (C·Catalogue .meaning (now self .below)) (now self .own) ⌝ }
+        ensures stays { λ _. ⌜ HoldingOk (C·Catalogue .valid (now (self .exit) .below)) (C·Catalogue .meaning (now (self .exit) .below)) (now (self .exit) .own) ⌝ }
+        ensures answers { λ r. ⌜ answer r ≡ hold-answer (held-over (packages (now (self .entry) .own)) (C·Catalogue .meaning (now (self .entry) .below))) p ⌝ }
+        ensures leaves { λ _. ⌜ held-over (packages (now (self .exit) .own)) (C·Catalogue .meaning (now (self .exit) .below)) ≡ hold-leaves (held-over (packages (now (self .entry) .own)) (C·Catalogue .meaning (now (self .entry) .below))) p ⌝ }
+        ensures fills { λ r. ⌜ packages (now (self .exit) .own) ≡ cond (isOk r && ltb 0 (32 - length (packages (now (self .entry) .own)))) (packages (now (self .entry) .own) ++ (p ∷ [])) (packages (now (self .entry) .own)) ⌝ }
+    {
         check_hold(&self.own, &self.below, p)?;
         if self.own.has_room() {
             self.own.add(p);

@@ -15,6 +15,7 @@ use crate::interface::Catalogue;
 use crate::interface::Make;
 use crate::limits::MOST_ARCS;
 use crate::limits::count_fits;
+use crate::limits::outside;
 use crate::refusal::Refusal;
 use labels::Constant;
 use labels::Label;
@@ -93,7 +94,7 @@ pub impl<'a, K: Label> Catalogue for Ledger<'a, K> as LedgerCatalogue {
     }
 
     fn withdraw(&mut self, from: u32, to: u32) -> Result<usize, Refusal> {
-        if from >= self.n || to >= self.n {
+        if outside(self.n, from) || outside(self.n, to) {
             return Err(Refusal::NoPackage);
         }
         let len = self.len;
@@ -106,14 +107,14 @@ pub impl<'a, K: Label> Catalogue for Ledger<'a, K> as LedgerCatalogue {
     }
 
     fn hold(&mut self, p: u32) -> Result<(), Refusal> {
-        if p >= self.n {
+        if outside(self.n, p) {
             return Err(Refusal::NoPackage);
         }
         Err(Refusal::NoHolds)
     }
 
     fn lift(&mut self, p: u32) -> Result<(), Refusal> {
-        if p >= self.n {
+        if outside(self.n, p) {
             return Err(Refusal::NoPackage);
         }
         Err(Refusal::NotHeld)
@@ -124,7 +125,7 @@ pub impl<'a, K: Label> Catalogue for Ledger<'a, K> as LedgerCatalogue {
 fn check_admit<K: Label>(n: u32, places: usize, from: u32, to: u32, label: K) -> Result<(), Refusal>
     ensures { λ r. ⌜ ((len : ℕ) (arcs : List (Arc K)) → length arcs - len ≡ places → answer r ≡ admit-answer (K·Label .ops) (ledger n len arcs) from to label) ⌝ }
 {
-    if from >= n || to >= n {
+    if outside(n, from) || outside(n, to) {
         return Err(Refusal::NoPackage);
     }
     if from == to {

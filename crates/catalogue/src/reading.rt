@@ -20,7 +20,7 @@ fn lowest_first(a: u8, b: u8, c: u8, d: u8) -> u32
 }
 
 // The 32-bit field at a byte, lowest byte first.
-pub fn word(bytes: &[u8], at: usize) -> u32
+fn word(bytes: &[u8], at: usize) -> u32
     requires { ⌜ at + 4 ≤ length (now bytes) ⌝ }
     ensures { λ r. ⌜ r ≡ word-at (now (bytes .entry)) at ⌝ }
 {
@@ -28,7 +28,7 @@ pub fn word(bytes: &[u8], at: usize) -> u32
 }
 
 // Where package `p`'s pair stands; at n, where the pairs end.
-pub fn pair_at(p: u32) -> usize
+pub(crate) fn pair_at(p: u32) -> usize
     ensures { λ r. ⌜ r ≡ 4 + 8 * p ⌝ }
 {
     4 + 8 * p as usize
@@ -51,7 +51,7 @@ fn run_size(bytes: &[u8], p: u32) -> u32
 }
 
 // Where the arc at a place of the stock stands.
-pub fn place_of(n: u32, k: usize) -> usize
+pub(crate) fn place_of(n: u32, k: usize) -> usize
     requires { ⌜ k ≤ 65536 ⌝ }
     ensures { λ r. ⌜ r ≡ 4 + 8 * n + 8 * k ⌝ }
 {
@@ -134,7 +134,7 @@ fn check_runs<K: Label>(bytes: &[u8], n: u32) -> Result<(), Refusal>
 }
 
 // Checks a sheet; answers its n.
-pub fn check_sheet<K: Label>(bytes: &[u8]) -> Result<u32, Refusal>
+pub(crate) fn check_sheet<K: Label>(bytes: &[u8]) -> Result<u32, Refusal>
     ensures checks { λ r. ⌜ verdict r ≡ sheet-check (K·Label .named) (now (bytes .entry)) ⌝ }
     ensures count { λ r. ⌜ made r (λ n. n ≡ count-of (now (bytes .entry))) ⌝ }
     ensures long { λ r. ⌜ made r (λ n. 4 + 8 * n ≤ length (now (bytes .entry))) ⌝ }
@@ -159,7 +159,7 @@ pub fn check_sheet<K: Label>(bytes: &[u8]) -> Result<u32, Refusal>
 }
 
 // The last package whose run begins at or before a byte.
-pub fn source(bytes: &[u8], n: u32, at: usize) -> u32
+pub(crate) fn source(bytes: &[u8], n: u32, at: usize) -> u32
     requires { ⌜ 1 ≤ n ⌝ ∗ ⌜ n ≤ 1024 ⌝ ∗ ⌜ 4 + 8 * n ≤ length (now bytes) ⌝ ∗ ⌜ offset-of (now bytes) 0 ≤ at ⌝ }
     ensures inside { λ r. ⌜ r < n ⌝ }
     ensures begun { λ r. ⌜ offset-of (now (bytes .entry)) r ≤ at ⌝ }
@@ -179,7 +179,7 @@ pub fn source(bytes: &[u8], n: u32, at: usize) -> u32
 }
 
 // The arc of package `from` that stands at a byte.
-pub fn arc_in<K: Label>(bytes: &[u8], from: u32, at: usize) -> Option<Arc<K>>
+pub(crate) fn arc_in<K: Label>(bytes: &[u8], from: u32, at: usize) -> Option<Arc<K>>
     requires { ⌜ at + 8 ≤ length (now bytes) ⌝ }
     ensures { λ r. ⌜ r ≡ labelled from (word-at (now (bytes .entry)) at) (K·Label .named (word-at (now (bytes .entry)) (at + 4))) ⌝ }
 {

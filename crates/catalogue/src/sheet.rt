@@ -1,13 +1,12 @@
 // A catalogue read from bytes.
 ghost use mathlib.Core.Path.{_≡_};
 ghost use denote.Ref.{now};
-ghost use lib.Dec.{leb};
-ghost use Rattle.std.specs.Results.{isOk};
 ghost use Rattle.catalogue.specs.Refusals.{meant, Stands};
 ghost use Rattle.catalogue.specs.SheetMeanings.{sheet, SheetOk, Exactly};
 ghost use Rattle.catalogue.specs.Makings.{sheet-of, first-meaning};
 use crate::interface::Catalogue;
 use crate::interface::Make;
+use crate::limits::outside;
 use crate::reading::arc_in;
 use crate::reading::check_sheet;
 use crate::reading::pair_at;
@@ -18,22 +17,13 @@ use labels::Label;
 use paths::Arc;
 use std::marker::PhantomData;
 
-// Sealed, with nothing held and no holds.
+// Sealed, with nothing held, no places and no holds.
 #[derive(Drop)]
 pub struct Sheet<'a, K: Label> {
     n: u32,
     arcs: usize,
     bytes: &'a [u8],
     kind: PhantomData<K>,
-}
-
-impl<'a, K: Label> Sheet<'a, K> {
-    // Is `p` no package number?
-    fn outside(&self, p: u32) -> bool
-        ensures { λ r. ⌜ r ≡ leb (now (self .entry) .n) p ⌝ }
-    {
-        p >= self.n
-    }
 }
 
 pub impl<'a, K: Label> Catalogue for Sheet<'a, K> as SheetCatalogue {
@@ -85,14 +75,14 @@ pub impl<'a, K: Label> Catalogue for Sheet<'a, K> as SheetCatalogue {
     }
 
     fn hold(&mut self, p: u32) -> Result<(), Refusal> {
-        if self.outside(p) {
+        if outside(self.n, p) {
             return Err(Refusal::NoPackage);
         }
         Err(Refusal::NoHolds)
     }
 
     fn lift(&mut self, p: u32) -> Result<(), Refusal> {
-        if self.outside(p) {
+        if outside(self.n, p) {
             return Err(Refusal::NoPackage);
         }
         Err(Refusal::NotHeld)
@@ -105,7 +95,7 @@ pub impl<'a, K: Label> Make<&'a [u8]> for Sheet<'a, K> as SheetMake {
     fn make(bytes: &'a [u8]) -> Result<Sheet<'a, K>, Refusal>
         ensures answers { λ r. ⌜ meant (λ s. sheet (K·Label .named) (K·Label .ops .none) (now (s .bytes))) r ≡ first-meaning (K·Label .ops) (K·Label .named) (sheet-of (now (bytes .entry))) ⌝ }
         ensures stands { λ r. ⌜ Stands (λ s. SheetOk (K·Label .named) (s .n) (s .arcs) (now (s .bytes))) r ⌝ }
-        ensures exact { λ r. ⌜ Exactly (K·Label .named) (K·Label .ops .none) (now (bytes .entry)) (isOk r) ⌝ }
+        ensures exact { λ r. ⌜ Exactly (K·Label .named) (K·Label .ops .none) (now (bytes .entry)) (meant (λ s. sheet (K·Label .named) (K·Label .ops .none) (now (s .bytes))) r) ⌝ }
     {
         match check_sheet::<K>(bytes) {
             Ok(n) => Ok(Sheet {

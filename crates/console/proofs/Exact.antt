@@ -14,7 +14,7 @@ use Rattle.std.proofs.shelf.Lists.{length-append, take-rest}
 use Rattle.std.proofs.shelf.Tests.{and-from, and-parts, cond-both, cond-true, eqb-true, lt-ltb, ltb-true}
 use Rattle.console.specs.declared.command.Command.{Command}
 use Rattle.console.specs.declared.command.Command.the-variants.{Size, Admit, Withdraw, Hold, Lift}
-use Rattle.console.specs.Grammar.{Exactly, Fits, admit-of, by-letter, command-of, field, number-of, opened, three-of, two-of, with, written}
+use Rattle.console.specs.Grammar.{Reads, Fits, admit-of, by-letter, command-of, field, number-of, opened, three-of, two-of, with, written}
 use Rattle.console.proofs.Fields.{three-all, three-some, two-all, two-some, with-some}
 use Rattle.console.proofs.Numbers.{no-some, number-all, number-some, same-some}
 
@@ -82,7 +82,7 @@ command-all (Withdraw f t) fits = opening 119 (decimal f ++ field t) ∙ ap (λ 
 command-all (Hold p) fits = opening 104 (decimal p) ∙ ap (λ o. with o (λ n. Some (Hold n))) (number-all p fits)
 command-all (Lift p) fits = opening 108 (decimal p) ∙ ap (λ o. with o (λ n. Some (Lift n))) (number-all p fits)
 
-pub exactly : (line : List ℕ) (r : Option Command) → r ≡ command-of line → Exactly line r
+pub exactly : (line : List ℕ) (r : Option Command) → r ≡ command-of line → Reads line r
 exactly line r e = record {
   some = λ c is. command-some line c (sym e ∙ is);
   all = λ c fits form. e ∙ ap command-of form ∙ command-all c fits;

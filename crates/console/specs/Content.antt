@@ -1,4 +1,4 @@
--- What a line buffer holds. Assumes nothing.
+-- What a line buffer holds.
 use Prim.Native.Nat.{ℕ}
 use mathlib.Core.List.{List}
 use lib.ListN.{take}

@@ -8,6 +8,10 @@ use lib.Dec.{eqb, ltb}
 use Rattle.std.specs.Written.{decimal}
 use Rattle.std.specs.declared.option.Option.{Option}
 use Rattle.std.specs.declared.option.Option.the-variants.{Some, None}
+use Rattle.std.specs.declared.result.Result.{Result}
+use Rattle.std.specs.declared.result.Result.the-variants.{Ok, Err}
+use Rattle.catalogue.specs.declared.refusal.Refusal.{Refusal}
+use Rattle.catalogue.specs.Refusals.{answer}
 use Rattle.console.specs.declared.command.Command.{Command}
 use Rattle.console.specs.declared.command.Command.the-variants.{Size, Admit, Withdraw, Hold, Lift}
 
@@ -61,6 +65,7 @@ hold-of bs = with (number-of bs) (λ p. Some (Hold p))
 abbrev pub lift-of : List ℕ → Option Command
 lift-of bs = with (number-of bs) (λ p. Some (Lift p))
 
+-- by the letters n, a, w, h, l
 abbrev pub by-letter : ℕ → List ℕ → Option Command
 by-letter l bs = cond (eqb l 110) (size-of bs) (cond (eqb l 97) (admit-of bs) (cond (eqb l 119) (withdraw-of bs) (cond (eqb l 104) (hold-of bs) (cond (eqb l 108) (lift-of bs) None))))
 
@@ -76,7 +81,7 @@ command-of line = cond (opened line) (by-letter (getD line 0 0) (drop 2 line)) N
 abbrev pub field : ℕ → List ℕ
 field n = 32 ∷ decimal n
 
--- the line of a command
+-- the line of a command: its letter and its fields
 abbrev pub written : Command → List ℕ
 written (Size p) = 110 ∷ field p
 written (Admit f t m) = 97 ∷ (field f ++ (field t ++ field m))
@@ -91,7 +96,21 @@ Fits (Withdraw f t) = (f < 2 ^ 32) × (t < 2 ^ 32)
 Fits (Hold p) = p < 2 ^ 32
 Fits (Lift p) = p < 2 ^ 32
 
--- r is the command whose written form the line is, and None where it is that of none
-pub record Exactly (line : List ℕ) (r : Option Command) : Type 0 where
-  pub some : (c : Command) → r ≡ Some c → (line ≡ written c) × Fits c
-  pub all : (c : Command) → Fits c → line ≡ written c → r ≡ Some c
+-- o is the command whose written form the line is, and None where it is that of none
+pub record Reads (line : List ℕ) (o : Option Command) : Type 0 where
+  pub some : (c : Command) → o ≡ Some c → (line ≡ written c) × Fits c
+  pub all : (c : Command) → Fits c → line ≡ written c → o ≡ Some c
+
+-- what a line is: its command, or 16
+abbrev pub or-16 : Option Command → Result Command ℕ
+or-16 None = Err 16
+or-16 (Some c) = Ok c
+
+abbrev pub parsed : List ℕ → Result Command ℕ
+parsed line = or-16 (command-of line)
+
+-- a line is taken exactly where it is a command's written form, as that command; every other line is 16
+pub record Exactly (line : List ℕ) (r : Result Command Refusal) : Type 0 where
+  pub taken : (c : Command) → r ≡ Ok c → (line ≡ written c) × Fits c
+  pub all : (c : Command) → Fits c → line ≡ written c → r ≡ Ok c
+  pub other : ((c : Command) → Fits c → line ≡ written c → ⊥) → answer r ≡ Err 16

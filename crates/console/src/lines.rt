@@ -4,16 +4,31 @@ ghost use mathlib.Core.List.{List, _++_};
 ghost use Prim.Native.Nat.{ℕ, _<_, _≤_};
 ghost use lib.ListN.{length, getD};
 ghost use Rattle.std.specs.declared.option.Option.the-variants.{None};
-ghost use Rattle.console.specs.Grammar.{Exactly, admit-of, by-letter, command-of, digits-of, grow, hold-of, lift-of, number-of, opened, padded, size-of, three-of, two-of, withdraw-of};
+ghost use Rattle.std.specs.declared.result.Result.the-variants.{Err};
+ghost use Rattle.catalogue.specs.Refusals.{answer};
+ghost use Rattle.console.specs.Grammar.{Exactly, Reads, parsed, admit-of, by-letter, command-of, digits-of, grow, hold-of, lift-of, number-of, opened, padded, size-of, three-of, two-of, withdraw-of};
 use crate::command::Command;
+use catalogue::Refusal;
 
 // No command is longer.
 const LONGEST: usize = 64;
 
-// The command that a line writes.
-pub fn parse(line: &[u8]) -> Option<Command>
-    ensures value { λ r. ⌜ r ≡ command-of (now (line .entry)) ⌝ }
+// The command that a line writes; every other line is refused.
+pub fn parse(line: &[u8]) -> Result<Command, Refusal>
+    ensures value { λ r. ⌜ answer r ≡ parsed (now (line .entry)) ⌝ }
     ensures exact { λ r. ⌜ Exactly (now (line .entry)) r ⌝ }
+    ensures short { λ r. ⌜ (64 < length (now (line .entry)) → answer r ≡ Err 16) ⌝ }
+    ensures cut { λ r. ⌜ ((rest : List ℕ) → length (now (line .entry)) ≡ 65 → parsed (now (line .entry) ++ rest) ≡ answer r) ⌝ }
+{
+    match read(line) {
+        Some(command) => Ok(command),
+        None => Err(Refusal::NotCommand),
+    }
+}
+
+fn read(line: &[u8]) -> Option<Command>
+    ensures value { λ r. ⌜ r ≡ command-of (now (line .entry)) ⌝ }
+    ensures exact { λ r. ⌜ Reads (now (line .entry)) r ⌝ }
     ensures short { λ r. ⌜ (64 < length (now (line .entry)) → r ≡ None) ⌝ }
     ensures cut { λ r. ⌜ ((rest : List ℕ) → length (now (line .entry)) ≡ 65 → command-of (now (line .entry) ++ rest) ≡ r) ⌝ }
 {
@@ -149,7 +164,7 @@ fn grown(sum: u32, byte: u8) -> Option<u32>
         return None;
     }
     let more = sum as u64 * 10 + (byte - b'0') as u64;
-    if more > 4294967295 {
+    if more > u32::MAX as u64 {
         return None;
     }
     Some(more as u32)

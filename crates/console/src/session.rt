@@ -2,7 +2,7 @@
 ghost use mathlib.Core.Path.{_≡_};
 ghost use Rattle.labels.specs.Kinds.{minutes-of};
 ghost use Rattle.catalogue.specs.Refusals.{answer};
-ghost use Rattle.console.specs.Sessions.{opening, line-call, obeyed, after};
+ghost use Rattle.console.specs.Sessions.{opening, sets, call-of, executed, left, obeyed, after};
 use crate::command::Command;
 use crate::lines::parse;
 use catalogue::Call;
@@ -20,7 +20,30 @@ pub fn open_with(line: &[u8]) -> Result<u32, Refusal>
     ensures { λ r. ⌜ answer r ≡ opening (now (line .entry)) ⌝ }
 {
     match parse(line) {
-        Some(Command::Size(n)) => {
+        Ok(command) => size(command),
+        Err(refusal) => Err(refusal),
+    }
+}
+
+// Does what a line says, once n is set.
+pub fn obey<C: Catalogue<Label = Minutes>>(catalogue: &mut C, line: &[u8]) -> Result<(), Refusal>
+    requires { ⌜ C·Catalogue .valid (now catalogue) ⌝ }
+    ensures stays { λ _. ⌜ C·Catalogue .valid (now (catalogue .exit)) ⌝ }
+    ensures answers { λ r. ⌜ answer r ≡ obeyed (C·Catalogue .meaning (now (catalogue .entry))) (now (line .entry)) ⌝ }
+    ensures leaves { λ _. ⌜ C·Catalogue .meaning (now (catalogue .exit)) ≡ after (C·Catalogue .meaning (now (catalogue .entry))) (now (line .entry)) ⌝ }
+{
+    match parse(line) {
+        Ok(command) => execute(catalogue, command),
+        Err(refusal) => Err(refusal),
+    }
+}
+
+// The n that a command sets.
+pub fn size(command: Command) -> Result<u32, Refusal>
+    ensures { λ r. ⌜ answer r ≡ sets command ⌝ }
+{
+    match command {
+        Command::Size(n) => {
             if n == 0 || n > MOST_PACKAGES {
                 return Err(Refusal::BadCount);
             }
@@ -30,24 +53,27 @@ pub fn open_with(line: &[u8]) -> Result<u32, Refusal>
     }
 }
 
-// Does what a line says, once n is set.
-pub fn obey<C: Catalogue<Label = Minutes>>(catalogue: &mut C, line: &[u8]) -> Result<(), Refusal>
+// Makes the call that a command asks for.
+pub fn execute<C: Catalogue<Label = Minutes>>(
+    catalogue: &mut C,
+    command: Command,
+) -> Result<(), Refusal>
     requires { ⌜ C·Catalogue .valid (now catalogue) ⌝ }
     ensures stays { λ _. ⌜ C·Catalogue .valid (now (catalogue .exit)) ⌝ }
-    ensures answers { λ r. ⌜ answer r ≡ obeyed (C·Catalogue .meaning (now (catalogue .entry))) (line-call (now (line .entry))) ⌝ }
-    ensures leaves { λ _. ⌜ C·Catalogue .meaning (now (catalogue .exit)) ≡ after (C·Catalogue .meaning (now (catalogue .entry))) (line-call (now (line .entry))) ⌝ }
+    ensures answers { λ r. ⌜ answer r ≡ executed (C·Catalogue .meaning (now (catalogue .entry))) command ⌝ }
+    ensures leaves { λ _. ⌜ C·Catalogue .meaning (now (catalogue .exit)) ≡ left (C·Catalogue .meaning (now (catalogue .entry))) command ⌝ }
 {
-    match call(line) {
+    match call(command) {
         Some(call) => make_call(catalogue, call),
         None => Err(Refusal::NotCommand),
     }
 }
 
-// The call that a line makes.
-fn call(line: &[u8]) -> Option<Call<Minutes>>
-    ensures { λ r. ⌜ r ≡ line-call (now (line .entry)) ⌝ }
+// The call that a command asks for.
+fn call(command: Command) -> Option<Call<Minutes>>
+    ensures { λ r. ⌜ r ≡ call-of command ⌝ }
 {
-    match parse(line)? {
+    match command {
         Command::Size(_) => None,
         Command::Admit(from, to, value) => Some(Call::Admit(from, to, minutes(value))),
         Command::Withdraw(from, to) => Some(Call::Withdraw(from, to)),

@@ -21,7 +21,7 @@ use Rattle.exercise.specs.declared.answers.Replies.{Replies}
 use Rattle.exercise.specs.declared.answers.Outcomes.{Outcomes}
 use Rattle.exercise.specs.declared.answers.Answers.{Answers}
 
-module _ {L : Type 0} (o : Ops L) where
+module _ {L : Type 0} where
   abbrev pub admits : Arguments L → Call L
   admits w = Admit (w .from) (w .to) (w .label)
 
@@ -38,6 +38,7 @@ module _ {L : Type 0} (o : Ops L) where
     pub can-hold : r .«can_hold» ≡ ltb 0 (m .holds)
     pub arc : r .arc ≡ arc-at m (w .place)
 
+module _ {L : Type 0} (o : Ops L) where
   pub record Called (m : Meaning L) (w : Arguments L) (r : Outcomes) : Type 0 where
     pub admit : answer (r .admit) ≡ admit-answer o m (w .from) (w .to) (w .label)
     pub hold : answer (r .hold) ≡ hold-answer (reckon o m (admits w ∷ [])) (w .package)

@@ -13,7 +13,7 @@ pub fn exercise<C: Catalogue>(catalogue: &mut C, with: Arguments<C::Label>) -> A
     requires { ⌜ C·Catalogue .valid (now catalogue) ⌝ }
     ensures stays { λ _. ⌜ C·Catalogue .valid (now (catalogue .exit)) ⌝ }
     ensures answers { λ r. ⌜ Exercised (Label·Label .ops) (C·Catalogue .meaning (now (catalogue .entry))) with r ⌝ }
-    ensures leaves { λ _. ⌜ C·Catalogue .meaning (now (catalogue .exit)) ≡ reckon (Label·Label .ops) (C·Catalogue .meaning (now (catalogue .entry))) (calls (Label·Label .ops) with) ⌝ }
+    ensures leaves { λ _. ⌜ C·Catalogue .meaning (now (catalogue .exit)) ≡ reckon (Label·Label .ops) (C·Catalogue .meaning (now (catalogue .entry))) (calls with) ⌝ }
 {
     let replies = ask(catalogue, with);
     let outcomes = call_each(catalogue, with);
@@ -23,7 +23,7 @@ pub fn exercise<C: Catalogue>(catalogue: &mut C, with: Arguments<C::Label>) -> A
 // Asks every question.
 pub fn ask<C: Catalogue>(catalogue: &C, with: Arguments<C::Label>) -> Replies<C::Label>
     requires { ⌜ C·Catalogue .valid (now catalogue) ⌝ }
-    ensures { λ r. ⌜ Asked (Label·Label .ops) (C·Catalogue .meaning (now (catalogue .entry))) with r ⌝ }
+    ensures { λ r. ⌜ Asked (C·Catalogue .meaning (now (catalogue .entry))) with r ⌝ }
 {
     Replies {
         n: catalogue.n(),
@@ -41,7 +41,7 @@ pub fn call_each<C: Catalogue>(catalogue: &mut C, with: Arguments<C::Label>) -> 
     requires { ⌜ C·Catalogue .valid (now catalogue) ⌝ }
     ensures stays { λ _. ⌜ C·Catalogue .valid (now (catalogue .exit)) ⌝ }
     ensures answers { λ r. ⌜ Called (Label·Label .ops) (C·Catalogue .meaning (now (catalogue .entry))) with r ⌝ }
-    ensures leaves { λ _. ⌜ C·Catalogue .meaning (now (catalogue .exit)) ≡ reckon (Label·Label .ops) (C·Catalogue .meaning (now (catalogue .entry))) (calls (Label·Label .ops) with) ⌝ }
+    ensures leaves { λ _. ⌜ C·Catalogue .meaning (now (catalogue .exit)) ≡ reckon (Label·Label .ops) (C·Catalogue .meaning (now (catalogue .entry))) (calls with) ⌝ }
 {
     Outcomes {
         admit: catalogue.admit(with.from, with.to, with.label),

@@ -31,18 +31,14 @@ impl Input {
     // Reads the next line. False at the end: nothing after the last line feed is no line.
     pub fn next_line(&mut self) -> bool {
         self.line.clear();
-        let mut some = false;
         for _ in 0..u64::MAX {
             match self.next_byte() {
                 Some(b'\n') => return true,
-                Some(byte) => {
-                    some = true;
-                    self.line.push(byte);
-                }
-                None => return some,
+                Some(byte) => self.line.push(byte),
+                None => break,
             }
         }
-        some
+        !self.line.is_empty()
     }
 
     // The next byte; nothing at the end, or where reading fails.

@@ -43,6 +43,7 @@ fn main(rt: LibcRuntime) -> io::Result<()> {
             println!(rt, "ok")?;
             serve(&rt, &mut input, &mut Holding::over(ledger))
         }
+        // not for an n of 1 to 64
         Err(refusal) => tell(&rt, Err(refusal)),
     }
 }

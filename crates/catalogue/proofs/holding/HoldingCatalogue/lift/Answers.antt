@@ -13,15 +13,15 @@ returns-then-remove g c =
     let m = g .C·Catalogue .meaning (s .below) in
     let xs = packages (s .own) in
     let p = c .args .p in
-    let few = c .pre .1 in
+    let few = c .pre .few in
     let long = length-take (s .own .len) (s .own .list) in
     let short : length xs ≤ 32 = omega arith in
     let there = sym (c .remove .ensures .found) ∙ c .if-remove .taken in
     let e = c .remove .ensures .rest in
     record {
-      stays = (c .pre .0, c .remove .ensures .few, subst (OwnOk (m .held) (m .n)) (sym e) (out-ok m xs p (c .pre .2) there));
-      answers = sym (lift-taken m xs p (c .pre .2) there);
-      leaves = ap (λ ys. held-over ys m) e ∙ lift-out m xs p (c .pre .2) there short;
+      stays = record { below = c .pre .below; few = c .remove .ensures .few; list = subst (OwnOk (m .held) (m .n)) (sym e) (out-ok m xs p (c .pre .list) there) };
+      answers = sym (lift-taken m xs p (c .pre .list) there);
+      leaves = ap (λ ys. held-over ys m) e ∙ lift-out m xs p (c .pre .list) there short;
     }
 
 pub returns : need.returns
@@ -35,7 +35,7 @@ returns g c =
     let d = c .lift .ensures in
     let after = g .C·Catalogue .meaning (c .lift .last .self) in
     record {
-      stays = (d .stays, c .remove .ensures .few, subst (OwnOk (after .held) (after .n)) (sym e) (subst (λ k. OwnOk (k .held) (k .n) xs) (sym (d .leaves)) (let-ok m xs p (c .pre .2) out)));
-      answers = d .answers ∙ lift-same m xs p (c .pre .2) out;
-      leaves = ap (λ ys. held-over ys after) e ∙ ap (held-over xs) (d .leaves) ∙ lift-passed m xs p (c .pre .2) out;
+      stays = record { below = d .stays; few = c .remove .ensures .few; list = subst (OwnOk (after .held) (after .n)) (sym e) (subst (λ k. OwnOk (k .held) (k .n) xs) (sym (d .leaves)) (let-ok m xs p (c .pre .list) out)) };
+      answers = d .answers ∙ lift-same m xs p (c .pre .list) out;
+      leaves = ap (λ ys. held-over ys after) e ∙ ap (held-over xs) (d .leaves) ∙ lift-passed m xs p (c .pre .list) out;
     }
