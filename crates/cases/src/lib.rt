@@ -1,4 +1,6 @@
 // A label kind and a layer of the tests' own, a slow reference catalogue, random numbers, and the tests.
+#![tactic(auto)]
+
 mod calls;
 #[cfg(test)]
 mod driving;

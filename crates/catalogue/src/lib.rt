@@ -1,4 +1,6 @@
 // Catalogues of packages and the arcs between them, and layers over catalogues.
+#![tactic(auto)]
+
 mod call;
 mod holding;
 mod holds;

@@ -1,4 +1,6 @@
 // Closings: the label of every pair of packages.
+#![tactic(auto)]
+
 mod direct;
 mod elimination;
 mod label;

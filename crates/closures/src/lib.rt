@@ -1,4 +1,6 @@
 // Tests of the closings beside the labels of chains that are written out.
+#![tactic(auto)]
+
 #[cfg(test)]
 mod chains;
 #[cfg(test)]

@@ -1,5 +1,7 @@
 // The lines that a user types: which of them are commands, what each does, and the memory in which
 // one is collected.
+#![tactic(auto)]
+
 pub mod buffer;
 pub mod command;
 pub mod lines;

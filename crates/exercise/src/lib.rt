@@ -1,5 +1,7 @@
 // Every make of catalogue made, asked and called, with what it answers: no contract of the
 // catalogues is empty.
+#![tactic(auto)]
+
 mod answers;
 mod asking;
 mod stacks;

@@ -1,4 +1,6 @@
 // Label kinds: what the label of an arc or of a chain of arcs can be.
+#![tactic(auto)]
+
 mod kinds;
 mod label;
 mod licence;

@@ -1,4 +1,6 @@
 // The planner's program: commands from standard input, one to a line; an answer for each.
+#![tactic(auto)]
+
 mod input;
 
 use catalogue::{Blank, Catalogue, Holding, Layer, Ledger, Make, Refusal};

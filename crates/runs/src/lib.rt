@@ -1,4 +1,6 @@
 // Runs of calls that include closings, and both closings beside each other.
+#![tactic(auto)]
+
 mod agreement;
 mod running;
 mod step;

@@ -1,1 +1,2 @@
 // What closings leave in tables of labels, and lemmas on them.
+#![tactic(auto)]

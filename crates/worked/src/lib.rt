@@ -1,5 +1,7 @@
 // Catalogues made, run and closed, with what they answer from the making on: no contract of the
 // closings is empty.
+#![tactic(auto)]
+
 mod asking;
 mod five;
 mod makes;
