@@ -2,7 +2,7 @@
 use Rattle.std.proofs.Common.{◌≡◌, ℕ, zero, suc, ◌+◌, ◌-◌, ◌<◌, ◌≤◌, Bool, true, false, cond, not, ◌&&◌, ◌||◌, eqb, ltb, ◌⊎◌, List, [], ◌∷◌, ◌++◌, length, get_or, take, set, filter, sym, refl, ap, ◌∙◌, subst, inl, inr, ⊎_elim, add-one, arith, length-take, get_or-take, take-suc-set}
 use mathlib.Core.Path.{fun_ext}
 use Rattle.std.proofs.lemmas.List.{take_more}
-use Rattle.std.proofs.lemmas.Bool.{eq-eqb, or_left, or_right, lt-ltb, eqb-true, or_from, or_parts, and_parts, and_from, and_right, not_true, cases_Bool, both_ways}
+use Rattle.std.proofs.lemmas.Bool.{eq-eqb, or_left, or_right, lt-ltb, eqb-true, or_from, or_parts, and_parts, and_from, and_right, not-true, cases_Bool, both_ways}
 use Rattle.std.proofs.lemmas.List.Filters.{FiltersInPlace, length-filter_both}
 use Rattle.std.proofs.lemmas.Bool.Decides.{nat_tests}
 use Rattle.catalogue.specs.Lists.{within, without, once}
@@ -108,7 +108,7 @@ once_without p (x ∷ xs) h =
     ⊎_elim
     (λ e. rw e (once_without p xs parts.1))
     (λ e. rw e (and_from (not (within (without p xs) x)) (once (without p xs))
-    (ap not (within_without p xs x ∙ and_right (not (eqb x p)) (within xs x) (not_true (within xs x) parts.0)))
+    (ap not (within_without p xs x ∙ and_right (not (eqb x p)) (within xs x) (not-true (within xs x) parts.0)))
     (once_without p xs parts.1)))
     (cases_Bool (eqb p x))
 
@@ -118,7 +118,7 @@ once_push (x ∷ xs) p h k =
     let parts = and_parts (not (within xs x)) (once xs) h in
     let out = or_parts (eqb p x) (within xs p) k in
     and_from (not (within (xs ++ (p ∷ [])) x)) (once (xs ++ (p ∷ [])))
-    (ap not (within_push xs p x ∙ or_from (within xs x) (eqb x p) (not_true (within xs x) parts.0) (eqb_sym x p ∙ out.0)))
+    (ap not (within_push xs p x ∙ or_from (within xs x) (eqb x p) (not-true (within xs x) parts.0) (eqb_sym x p ∙ out.0)))
     (once_push xs p parts.1 out.1)
 
 pub length_without : (p : ℕ) (xs : List ℕ) → once xs ≡ true → within xs p ≡ true → length (without p xs) + 1 ≡ length xs
@@ -127,7 +127,7 @@ length_without p (x ∷ xs) h k =
     let parts = and_parts (not (within xs x)) (once xs) h in
     ⊎_elim
     (λ e. let same : p ≡ x = eqb-true p x e in
-    let gone : without p xs ≡ xs = without_none p xs (ap (within xs) same ∙ not_true (within xs x) parts.0) in
+    let gone : without p xs ≡ xs = without_none p xs (ap (within xs) same ∙ not-true (within xs x) parts.0) in
     rw (e, gone) (omega arith))
     (λ e. let there : within xs p ≡ true = (rw e at k) in
     rw e (omega (arith, length_without p xs parts.1 there)))

@@ -3,7 +3,7 @@ use Rattle.std.proofs.Common.{◌≡◌, ℕ, zero, suc, ◌+◌, ◌*◌, ◌<�
 use lib.ListN.{length-map}
 use Rattle.std.specs.List.{AllByRecursion as All}
 use Rattle.std.proofs.lemmas.Option.{slice_get_past}
-use Rattle.std.proofs.lemmas.Bool.{and_parts, eqb-false, ltb-true, not_true, false≢true}
+use Rattle.std.proofs.lemmas.Bool.{and_parts, eqb-false, ltb-true, not-true, false≢true}
 use Rattle.labels.specs.Algebra.{Ops, Unnamed}
 use Rattle.paths.specs.Arcs.{arc}
 use Rattle.sheets.specs.Sheets.{word_at, offset_of, count_of, Entry, entry, entries, first_unmet, entry_check, sheet_check}
@@ -28,7 +28,7 @@ module _ {L : Type 0} (o : Ops L) (named : ℕ → Option L) (unnamed : Unnamed 
       record {
         from_in = ltb-true e.from n a'.0;
         to_in = ltb-true e.to n a'.1;
-        apart = eqb-false e.from e.to (not_true (eqb e.from e.to) b.0);
+        apart = eqb-false e.from e.to (not-true (eqb e.from e.to) b.0);
         labelled = go (named e.word) refl c.0;
       }
     where

@@ -1,6 +1,6 @@
 -- Labels with equal numbers are equal, and the words that name labels.
-use Rattle.std.specs.Prelude.{◌≡◌, ℕ, ◌^◌, ◌<◌, ◌≤◌, min, Bool, true, false, cond, Some, None, Option, nat_le, refl}
-use Rattle.std.proofs.Common.{ap, sym, subst, arith, ltb-true, le-leb, leb-true, leb-false}
+use Rattle.std.specs.Prelude.{◌≡◌, ℕ, ◌^◌, ◌<◌, min, Bool, true, false, cond, Some, None, nat_le, refl}
+use Rattle.std.proofs.Common.{ap, sym, subst, arith, ltb-true, leb-true, leb-false}
 use mathlib.Core.HLevel.{is_prop→PathP}
 use Rattle.std.proofs.Math.Bridge.{le_prop}
 use Rattle.labels.specs.Kinds.{names_itself, minutes_named, minutes_of, licence_named, mask_of, sum_or_none}

@@ -1,5 +1,5 @@
 -- The label kinds: their operations, and the labels that words name.
-use Rattle.std.specs.Prelude.{◌≡◌, ℕ, ◌+◌, min, Bool, true, false, cond, Some, None, Option, ◌==◌, bit_and, bit_or, nat_lt}
+use Rattle.std.specs.Prelude.{ℕ, ◌+◌, min, Bool, true, false, cond, Some, None, Option, ◌==◌, bit_and, bit_or, nat_lt}
 use Rattle.std.proofs.Common.{arith}
 use Rattle.std.specs.Int.Bits.{and_lt}
 use Rattle.std.proofs.lemmas.Nat.{or_lt}

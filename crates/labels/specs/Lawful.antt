@@ -1,14 +1,12 @@
 -- The laws of minutes and licence.
-use Rattle.std.specs.Prelude.{◌≡◌, ℕ, ◌+◌, ◌^◌, ◌<◌, min, Bool, true, false, cond, Some, None, Option, ◌≢◌, bit_and}
+use Rattle.std.specs.Prelude.{◌≡◌, ℕ, ◌<◌, Bool, true, false, cond, Some, None, Option, ◌≢◌, bit_and}
 use Rattle.std.proofs.Math.Path.{refl, ap}
-use Rattle.std.proofs.Common.{sym, ap₂, ◌∙◌, arith}
+use Rattle.std.proofs.Common.{ap₂, ◌∙◌, arith}
 use Rattle.std.proofs.lemmas.Nat.{and_comm, or_comm}
 use Rattle.std.specs.Int.Bits.{or_zero_r}
 use borrow.Author.Tests.{ltb-true, eqb-true, eq-eqb}
 use Rattle.labels.specs.Algebra.{Laws, Absorbs, Exact, Unnamed}
-use Rattle.labels.specs.Kinds.{names_itself, sum_or_none, minutes_ops, minutes_named, minutes_of, no_time, licence_ops, licence_named, mask_of, no_licence}
-use Rattle.labels.specs.declared.kinds.Minutes.{Minutes}
-use Rattle.labels.specs.declared.kinds.Licence.{Licence}
+use Rattle.labels.specs.Kinds.{names_itself, minutes_ops, minutes_named, minutes_of, no_time, licence_ops, licence_named, mask_of, no_licence}
 use Rattle.labels.specs.Alike.{minutes_same, licence_same, sum_is_min}
 use Rattle.labels.specs.Masks.{and_assoc, or_assoc, or_and, and_ones, or_ones}
 

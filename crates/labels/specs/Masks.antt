@@ -1,8 +1,8 @@
 -- Laws of bitwise and and or.
-use Rattle.std.specs.Prelude.{◌≡◌, ℕ, zero, suc, ◌+◌, ◌-◌, ◌*◌, ◌/◌, ◌%◌, ◌^◌, ◌<◌, bit_and, bit_or, refl}
-use Rattle.std.proofs.Common.{sym, ap, ap₂, ◌∙◌, le_of_suc-le-suc, not-suc-le-zero, div-add-mod', mod-lt, mod-eq_of_lt, zero-lt-suc, arith}
+use Rattle.std.specs.Prelude.{◌≡◌, ℕ, zero, suc, ◌+◌, ◌*◌, ◌/◌, ◌%◌, ◌^◌, ◌<◌, bit_and, bit_or, refl}
+use Rattle.std.proofs.Common.{sym, ap, ap₂, ◌∙◌, div-add-mod', mod-lt, mod-eq_of_lt, zero-lt-suc, arith}
 use Rattle.std.proofs.Math.Arith.{bin_ind}
-use Rattle.std.proofs.lemmas.Nat.{and_shr, and_mod, or_shr, or_mod, and_comm, or_comm, and_mask}
+use Rattle.std.proofs.lemmas.Nat.{and_shr, and_mod, or_shr, or_mod, and_comm, and_mask}
 use Rattle.std.specs.Int.Bits.{or_add_and}
 
 -- a law of three numbers that holds of digits holds of numbers

@@ -1,11 +1,11 @@
 -- A long chain has a cycle, and is no better without it; so L(n) has every chain.
-use Rattle.std.proofs.Common.{◌≡◌, ℕ, zero, suc, ◌<◌, ◌≤◌, ◌⊎◌, List, [], ◌∷◌, map, length, sym, refl, ap, ◌∙◌, subst, inl, inr, le_trans, arith}
+use Rattle.std.proofs.Common.{◌≡◌, ℕ, ◌<◌, ◌≤◌, ◌⊎◌, List, [], ◌∷◌, map, length, sym, subst, inl, inr, le_trans, arith}
 use native.Mathlib.Decide.{ℕ_discrete}
 use lib.ListN.{length-map}
 use Rattle.labels.specs.Algebra.{Ops, Laws, Absorbs}
-use Rattle.paths.specs.Chains.{Arc, Mem, join_over, chains, chains_upto, label_of, L, IsChain}
+use Rattle.paths.specs.Chains.{Arc, Mem, chains_upto, label_of, L, IsChain}
 use Rattle.paths.proofs.Order.{Under, under_trans, under_both, under_refl, extend_left, under_extend, over_least, over_upper}
-use Rattle.paths.proofs.Members.{in_chains_upto, of_chains_upto, of_map}
+use Rattle.paths.proofs.Members.{in_chains_upto, of_chains_upto}
 use Rattle.paths.proofs.Distinct.{Distinct, distinct_below}
 
 abbrev pub targets : {K : Type 0} → List (Arc K) → List ℕ

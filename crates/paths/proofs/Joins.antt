@@ -1,5 +1,5 @@
 -- The laws of a join over a list.
-use Rattle.std.proofs.Common.{◌≡◌, Bool, true, false, cond, ◌⊎◌, List, [], ◌∷◌, ◌++◌, map, sym, refl, ap, ◌∙◌, ap₂, inl, inr}
+use Rattle.std.proofs.Common.{◌≡◌, List, [], ◌∷◌, ◌++◌, map, sym, refl, ap, ◌∙◌, ap₂, inl, inr}
 use Rattle.labels.specs.Algebra.{Ops, Laws}
 use Rattle.paths.specs.Chains.{flat, Mem, join_over}
 

@@ -1,5 +1,5 @@
 -- The order of a kind that absorbs: a is under b where joining a to b changes nothing.
-use Rattle.std.proofs.Common.{◌≡◌, ◌⊎◌, List, [], ◌∷◌, sym, refl, ap, ◌∙◌, subst, ap₂, inl, inr}
+use Rattle.std.proofs.Common.{◌≡◌, List, [], ◌∷◌, sym, refl, ap, ◌∙◌, subst, ap₂, inl, inr}
 use Rattle.labels.specs.Algebra.{Ops, Laws, Absorbs}
 use Rattle.paths.specs.Chains.{Mem, join_over}
 use Rattle.paths.proofs.Joins.{none_join}

@@ -1,5 +1,5 @@
 -- The order of the arcs does not matter. No absorption is used.
-use Rattle.std.proofs.Common.{◌≡◌, ℕ, zero, suc, cond, eqb, List, [], ◌∷◌, sym, refl, ap, ◌∙◌, ap₂}
+use Rattle.std.proofs.Common.{◌≡◌, ℕ, zero, suc, cond, eqb, List, sym, refl, ap, ◌∙◌, ap₂}
 use mathlib.Core.List.{Permᴰ}
 use Rattle.labels.specs.Algebra.{Ops, Laws}
 use Rattle.paths.specs.Chains.{Arc, join_over, L}

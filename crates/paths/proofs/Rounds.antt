@@ -1,8 +1,8 @@
 -- A round needs only what the round before changed.
-use Rattle.std.proofs.Common.{◌≡◌, ℕ, zero, suc, ◌<◌, cond, List, sym, refl, ap, ◌∙◌, ap₂}
+use Rattle.std.proofs.Common.{◌≡◌, ℕ, suc, ◌<◌, List, sym, ap, ◌∙◌}
 use Rattle.labels.specs.Algebra.{Ops, Laws, Absorbs}
-use Rattle.paths.specs.Chains.{Arc, Mem, join_over, label_of, chains_upto, chains, L}
-use Rattle.paths.proofs.Order.{Under, under_refl, under_left}
+use Rattle.paths.specs.Chains.{Arc, Mem, L}
+use Rattle.paths.proofs.Order.{Under, under_left}
 use Rattle.paths.proofs.Steps.{just, unit, before, stay, L_suc, L_step, before_cong, before_join}
 
 module _ {K : Type 0} (o : Ops K) (laws : Laws o) (arcs : List (Arc K)) where

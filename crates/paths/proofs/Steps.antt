@@ -1,9 +1,9 @@
 -- L(m + 1) from L(m).
-use Rattle.std.proofs.Common.{◌≡◌, ℕ, zero, suc, ◌+◌, ◌<◌, ◌≤◌, Bool, true, false, cond, eqb, ◌⊎◌, List, [], ◌∷◌, ◌++◌, map, sym, refl, ap, ◌∙◌, ap₂, inl, inr}
+use Rattle.std.proofs.Common.{◌≡◌, ℕ, zero, suc, ◌<◌, ◌≤◌, Bool, true, false, cond, eqb, List, [], ◌∷◌, map, sym, refl, ap, ◌∙◌, ap₂}
 use native.Mathlib.Decide.{le_ind}
 use Rattle.labels.specs.Algebra.{Ops, Laws}
-use Rattle.paths.specs.Chains.{Arc, flat, Mem, join_over, chains, chains_upto, label_of, L}
-use Rattle.paths.proofs.Joins.{none_join, over_append, over_cong, over_none, over_join, extend_over, over_map, over_flat}
+use Rattle.paths.specs.Chains.{Arc, Mem, join_over, chains, chains_upto, label_of, L}
+use Rattle.paths.proofs.Joins.{none_join, over_append, over_cong, over_join, extend_over, over_map, over_flat}
 
 -- the join over the chains of exactly m arcs
 abbrev pub just : {K : Type 0} → Ops K → List (Arc K) → ℕ → ℕ → ℕ → K

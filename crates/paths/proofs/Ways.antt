@@ -1,11 +1,11 @@
 -- Elimination: the join over the chains whose inner packages are below k, for k from 0 to n.
-use Rattle.std.proofs.Common.{◌≡◌, ℕ, zero, suc, ◌+◌, ◌<◌, ◌≤◌, ◌⊎◌, List, [], ◌∷◌, ◌++◌, map, length, sym, refl, ap, ◌∙◌, subst, ap₂, inl, inr, arith, length-append}
+use Rattle.std.proofs.Common.{◌≡◌, ℕ, suc, ◌<◌, ◌≤◌, ◌⊎◌, List, [], ◌∷◌, ◌++◌, map, length, sym, refl, ap, ◌∙◌, subst, ap₂, inl, inr, arith, length-append}
 use native.Mathlib.Decide.{dec_lt}
 use Rattle.labels.specs.Algebra.{Ops, Laws, Absorbs}
-use Rattle.paths.specs.Chains.{Arc, flat, Mem, join_over, chains, chains_upto, label_of, L, IsChain}
+use Rattle.paths.specs.Chains.{Arc, flat, Mem, join_over, chains_upto, label_of, L, IsChain}
 use Rattle.paths.specs.Tables.{through}
 use Rattle.paths.proofs.Joins.{over_append, over_cong, over_flat, over_map, extend_over, over_extend}
-use Rattle.paths.proofs.Order.{Under, under_trans, under_both, under_refl, under_left, under_right, join_under, extend_left, extend_right, extend_under, under_extend, over_least, over_upper}
+use Rattle.paths.proofs.Order.{Under, under_trans, under_both, under_left, under_right, join_under, extend_left, extend_right, extend_under, under_extend, over_least, over_upper}
 use Rattle.paths.proofs.Members.{in_chains_upto, of_chains_upto, mem_append, of_flat, of_map}
 use Rattle.paths.proofs.Cut.{chain_under}
 

@@ -1,12 +1,12 @@
 -- A table written out as a list.
-use Rattle.std.proofs.Common.{◌≡◌, ℕ, zero, suc, ◌+◌, ◌-◌, ◌*◌, ◌/◌, ◌%◌, ◌<◌, ◌≤◌, List, [], ◌∷◌, ◌++◌, map, length, get_or, sym, refl, ap, ◌∙◌, ap₂, suc-mul, arith, length-append}
+use Rattle.std.proofs.Common.{◌≡◌, ℕ, zero, suc, ◌+◌, ◌-◌, ◌*◌, ◌/◌, ◌%◌, ◌<◌, List, map, length, get_or, sym, refl, ap, ◌∙◌, ap₂, suc-mul, arith, length-append}
 use Rattle.std.specs.List.{range_with_len}
 use Rattle.std.proofs.lemmas.List.FromFn.{length-map-range_with_len, get_or-map-range_with_len}
 use Rattle.std.proofs.lemmas.List.{ext_get_or, get_or_append_left, get_or-append_right}
 use Rattle.std.proofs.lemmas.Nat.{div_below, mod_below, div-add-mod'}
 use Rattle.labels.specs.Algebra.{Ops}
 use Rattle.paths.specs.Chains.{flat}
-use Rattle.paths.specs.Tables.{table, cell, Shows}
+use Rattle.paths.specs.Tables.{table, Shows}
 
 module _ {K : Type 0} (n : ℕ) (f : ℕ → ℕ → K) where
   abbrev rows : ℕ → ℕ → List K

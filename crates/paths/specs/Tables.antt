@@ -1,5 +1,5 @@
 -- Tables of n × n labels, cell i × n + j for the pair (i, j), and how many rounds a table takes.
-use Rattle.std.specs.Prelude.{◌≡◌, ℕ, zero, suc, ◌+◌, ◌*◌, ◌<◌, ◌≤◌, Bool, true, cond, ◌&&◌, List, [], ◌∷◌, map, slice_index_or}
+use Rattle.std.specs.Prelude.{◌≡◌, ℕ, zero, suc, ◌+◌, ◌*◌, ◌<◌, ◌≤◌, Bool, true, cond, ◌&&◌, List, map, slice_index_or}
 use Rattle.std.specs.List.{range_with_len}
 use Rattle.labels.specs.Algebra.{Ops}
 use Rattle.paths.specs.Chains.{Arc, flat, L, Still}

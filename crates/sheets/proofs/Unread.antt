@@ -3,7 +3,7 @@ use Rattle.std.proofs.Common.{◌≡◌, ℕ, zero, suc, ◌+◌, ◌*◌, ◌/�
 use Rattle.std.specs.List.{range_with_len, flat_map, AllByRecursion as All}
 use Rattle.std.proofs.lemmas.List.FromFn.{length-map-range_with_len}
 use Rattle.std.proofs.lemmas.List.{append_assoc, append-nil, drop_all}
-use Rattle.std.proofs.lemmas.Bool.{and_parts, ltb-true, eqb-false, not_true}
+use Rattle.std.proofs.lemmas.Bool.{and_parts, ltb-true, eqb-false, not-true}
 use Rattle.sheets.specs.Sheets.{word_at, count_of, offset_of, size_of, due, Entry, entry, entry_at, run, entries, first_unmet, entry_check, sheet_check}
 use Rattle.sheets.specs.Layout.{field, Mark, run_bytes, pair_bytes, stated_from, EntryOk, States}
 use Rattle.sheets.proofs.Checks.{met_cons, head_met}
@@ -37,7 +37,7 @@ module _ {L : Type 0} (named : ℕ → Option L) (n : ℕ) where
       record {
         from_in = ltb-true e.from n a'.0;
         to_in = ltb-true e.to n a'.1;
-        apart = eqb-false e.from e.to (not_true (eqb e.from e.to) b.0);
+        apart = eqb-false e.from e.to (not-true (eqb e.from e.to) b.0);
         labelled = c.0;
         fits = w;
       }
