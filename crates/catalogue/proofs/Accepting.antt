@@ -1,14 +1,12 @@
 -- What an accepted call has met, and that every call leaves a sound meaning.
-use Rattle.std.proofs.Common.{◌≡◌, ℕ, ◌+◌, ◌-◌, ◌<◌, ◌≤◌, Bool, true, false, cond, not, ◌&&◌, ◌||◌, eqb, leb, List, [], ◌∷◌, ◌++◌, length, is_ok, Ok, Err, filter, Result, sym, refl, ap, ◌∙◌, subst, arith, length-append}
-use Rattle.std.specs.List.{AllByRecursion as All}
+use Rattle.std.proofs.Common.{◌≡◌, ℕ, ◌<◌, Bool, true, false, cond, ◌||◌, eqb, [], ◌∷◌, is_ok, Ok, Err, Result, sym, refl, ap, ◌∙◌, arith, length-append}
 use Rattle.std.proofs.ByRecursion.{All-push, all_kept_by}
 use Rattle.std.proofs.lemmas.List.Filters.{length-filter_both}
-use Rattle.std.proofs.lemmas.Bool.{eqb-true, eqb-false, leb-false, or_cases, and_parts, false≢true, both_ways}
+use Rattle.std.proofs.lemmas.Bool.{eqb-false, leb-false, false≢true}
 use Rattle.labels.specs.Algebra.{Ops, Exact}
-use Rattle.paths.specs.declared.arc.Arc.{Arc}
 use Rattle.paths.specs.Arcs.{arc, between, elsewhere}
 use Rattle.catalogue.specs.Meanings.{Meaning, ArcOk, Sound}
-use Rattle.catalogue.specs.Calls.{outside, is_none, matching, admit_answer, admitted, admit_leaves, withdraw_answer, withdrawn, withdraw_leaves, hold_answer, held_too, hold_leaves, lift_answer, lifted, lift_leaves}
+use Rattle.catalogue.specs.Calls.{outside, is_none, admit_answer, admitted, admit_leaves, withdrawn}
 
 -- a refusal is no acceptance
 pub err_ok : {A : Type 0} (k : ℕ) (v : A) → Err k ≡ Ok v → ⊥

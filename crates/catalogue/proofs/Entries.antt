@@ -1,10 +1,10 @@
 -- A ledger's arcs.
-use Rattle.std.proofs.Common.{◌≡◌, ℕ, ◌+◌, ◌-◌, ◌<◌, ◌≤◌, List, [], ◌∷◌, ◌++◌, length, get_or, take, set, Some, None, Ok, sym, refl, ap, ◌∙◌, subst, add-one, arith, length-set, length-take, get_or-take, take-suc-set}
+use Rattle.std.proofs.Common.{◌≡◌, ℕ, ◌+◌, ◌-◌, ◌<◌, ◌≤◌, List, [], ◌∷◌, ◌++◌, length, get_or, take, set, Some, None, Ok, sym, ap, ◌∙◌, subst, add-one, arith, length-set, length-take, get_or-take, take-suc-set}
 use Rattle.std.proofs.lemmas.Option.{slice_get_read, slice_get_past}
 use Rattle.labels.specs.Algebra.{Ops, Exact}
 use Rattle.paths.specs.declared.arc.Arc.{Arc}
 use Rattle.paths.specs.Arcs.{arc}
-use Rattle.catalogue.specs.Meanings.{Meaning, Sound}
+use Rattle.catalogue.specs.Meanings.{Sound}
 use Rattle.catalogue.specs.Calls.{arc_at, unheld, admit_answer, admitted, admit_leaves}
 use Rattle.catalogue.specs.Ledgers.{ledger, LedgerOk}
 use Rattle.catalogue.proofs.Accepting.{admits, admitted_sound, admit_took}

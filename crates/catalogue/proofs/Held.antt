@@ -1,11 +1,10 @@
 -- Holds and lifts in a layer's own list, and passed down.
-use Rattle.std.proofs.Common.{◌≡◌, ℕ, zero, suc, ◌+◌, ◌-◌, ◌<◌, ◌≤◌, Bool, true, false, cond, not, ◌&&◌, ◌||◌, eqb, leb, ◌⊎◌, List, [], ◌∷◌, ◌++◌, length, is_ok, Ok, Err, Result, sym, refl, ap, ◌∙◌, subst, inl, inr, ⊎_elim, arith, length-append}
+use Rattle.std.proofs.Common.{◌≡◌, ℕ, ◌+◌, ◌-◌, ◌<◌, ◌≤◌, Bool, true, false, cond, not, ◌&&◌, ◌||◌, eqb, List, [], ◌∷◌, ◌++◌, length, is_ok, Ok, Err, Result, sym, refl, ap, ◌∙◌, ⊎_elim, arith, length-append}
 use mathlib.Core.Path.{fun_ext}
-use Rattle.std.proofs.lemmas.Bool.{eq-eqb, ne_eqb, eqb-true, eqb-false, or_from, or_parts, or_cases, and_parts, and_from, and_right, and_left, not-true, cases_Bool, both_ways, lt-leb, leb-false}
-use Rattle.std.proofs.lemmas.Bool.Decides.{nat_tests}
+use Rattle.std.proofs.lemmas.Bool.{ne_eqb, eqb-true, or_from, or_cases, and_parts, and_right, both_ways, lt-leb, leb-false}
 use Rattle.catalogue.specs.Meanings.{Meaning}
 use Rattle.catalogue.specs.Calls.{outside, hold_answer, hold_leaves, held_too, lift_answer, lift_leaves, lifted}
-use Rattle.catalogue.specs.Lists.{within, without, once}
+use Rattle.catalogue.specs.Lists.{within, without}
 use Rattle.catalogue.specs.Holds.{OwnOk, held_over}
 use Rattle.catalogue.proofs.Listed.{within_push, within_without, once_without, once_push, length_without, or_swap, or_push, shift_not, not_out}
 use Rattle.catalogue.proofs.Choosing.{over_cond}

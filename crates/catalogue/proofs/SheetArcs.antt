@@ -1,12 +1,12 @@
 -- What a sheet that meets its checks means.
 use Rattle.std.proofs.Common.{◌≡◌, ℕ, zero, suc, ◌+◌, ◌*◌, ◌<◌, ◌≤◌, true, false, not, ◌&&◌, eqb, ltb, List, [], ◌∷◌, map, length, get_or, is_some, is_ok, Some, None, Ok, Option, Result, unwrap_or, sym, refl, ap, ◌∙◌, arith}
 use lib.ListN.{length-map}
-use Rattle.std.specs.List.{AllByRecursion as All}
+use Rattle.std.specs.List.{AllByRecursion}
 use Rattle.std.proofs.lemmas.Option.{slice_get_past}
 use Rattle.std.proofs.lemmas.Bool.{and_parts, eqb-false, ltb-true, not-true, false≢true}
 use Rattle.labels.specs.Algebra.{Ops, Unnamed}
 use Rattle.paths.specs.Arcs.{arc}
-use Rattle.sheets.specs.Sheets.{word_at, offset_of, count_of, Entry, entry, entries, first_unmet, entry_check, sheet_check}
+use Rattle.sheets.specs.Sheets.{word_at, offset_of, count_of, Entry, entries, first_unmet, entry_check, sheet_check}
 use Rattle.sheets.specs.Layout.{Mark, States}
 use Rattle.sheets.proofs.Checks.{met_cons, head_met}
 use Rattle.sheets.proofs.Stock.{nth_map}
@@ -36,7 +36,7 @@ module _ {L : Type 0} (o : Ops L) (named : ℕ → Option L) (unnamed : Unnamed 
       go None i h z = false≢true h
       go (Some x) i h z = unnamed e.word (i ∙ ap Some z)
 
-  entries_ok : (n : ℕ) (es : List Entry) → first_unmet (map (entry_check named n) es) ≡ 0 → All (ArcOk o n) (map (arc_of named o.none) es)
+  entries_ok : (n : ℕ) (es : List Entry) → first_unmet (map (entry_check named n) es) ≡ 0 → AllByRecursion (ArcOk o n) (map (arc_of named o.none) es)
   entries_ok n [] h = tt
   entries_ok n (e ∷ es) h =
       let b = head_met (entry_check named n e) (map (entry_check named n) es) h in

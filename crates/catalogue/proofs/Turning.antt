@@ -1,14 +1,14 @@
 -- The calls and questions on a turned meaning.
-use Rattle.std.proofs.Common.{◌≡◌, ℕ, zero, suc, Bool, cond, not, eqb, List, [], ◌∷◌, map, length, is_ok, Some, None, filter, Option, sym, refl, ap, ◌∙◌, arith}
+use Rattle.std.proofs.Common.{◌≡◌, ℕ, zero, suc, cond, not, eqb, List, [], ◌∷◌, map, length, is_ok, Some, None, filter, sym, refl, ap, ◌∙◌, arith}
 use mathlib.Core.Path.{fun_ext}
 use lib.ListN.{length-map}
 use Rattle.std.specs.Option.{option_map}
-use Rattle.std.specs.List.{AllByRecursion as All, slice_get}
+use Rattle.std.specs.List.{AllByRecursion, slice_get}
 use Rattle.std.proofs.lemmas.List.{map-append}
 use Rattle.std.proofs.lemmas.Bool.Decides.{nat_tests}
 use Rattle.labels.specs.Algebra.{Ops}
 use Rattle.paths.specs.declared.arc.Arc.{Arc}
-use Rattle.paths.specs.Arcs.{arc, between, elsewhere, turn}
+use Rattle.paths.specs.Arcs.{between, elsewhere, turn}
 use Rattle.catalogue.specs.Meanings.{Meaning, ArcOk, Sound, free_ends}
 use Rattle.catalogue.specs.Calls.{arc_at, unheld, matching, outside, admit_answer, admit_leaves, admitted, withdraw_answer, withdraw_leaves, withdrawn}
 use Rattle.catalogue.specs.Turns.{turned}
@@ -63,7 +63,7 @@ module _ {L : Type 0} where
       ∙ ap (λ r. cond (is_ok r) (turned (withdrawn m t f)) (turned m)) (withdraw_turned m f t)
       ∙ ap (λ r. cond (is_ok (withdraw_answer (turned m) f t)) r (turned m)) (sym s)
 
-  all_turned : (o : Ops L) (n : ℕ) (xs : List (Arc L)) → All (ArcOk o n) xs → All (ArcOk o n) (map turn xs)
+  all_turned : (o : Ops L) (n : ℕ) (xs : List (Arc L)) → AllByRecursion (ArcOk o n) xs → AllByRecursion (ArcOk o n) (map turn xs)
   all_turned o n [] h = tt
   all_turned o n (x ∷ xs) h = (record { from_in = h.0.to_in; to_in = h.0.from_in; apart = λ e. h.0.apart (sym e); labelled = h.0.labelled }, all_turned o n xs h.1)
 

@@ -1,6 +1,6 @@
 -- What a catalogue means, and what is true of every meaning.
 use Rattle.std.specs.Prelude.{◌≡◌, ℕ, ◌+◌, ◌<◌, ◌≤◌, Bool, true, not, ◌||◌, List, length, filter}
-use Rattle.std.specs.List.{AllByRecursion as All}
+use Rattle.std.specs.List.{AllByRecursion}
 use Rattle.labels.specs.Algebra.{Ops}
 use Rattle.paths.specs.declared.arc.Arc.{Arc}
 
@@ -27,7 +27,7 @@ module _ {L : Type 0} (o : Ops L) where
   pub record Sound (m : Meaning L) : Type 0 where
     pub some : 1 ≤ m.n
     pub most : m.n ≤ 1024
-    pub arcs : All (ArcOk m.n) m.stock
+    pub arcs : AllByRecursion (ArcOk m.n) m.stock
     pub room : length m.stock + m.places ≤ 65536
     pub inside : (p : ℕ) → m.held p ≡ true → p < m.n
 

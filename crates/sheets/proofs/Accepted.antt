@@ -1,6 +1,6 @@
 -- The sheet of lawful runs is accepted, and states their arcs.
 use Rattle.std.proofs.Common.{◌≡◌, ℕ, ◌+◌, ◌*◌, not, ◌&&◌, eqb, ltb, leb, List, [], ◌∷◌, ◌++◌, map, length, drop, is_some, Option, sym, refl, ap, ◌∙◌, ap₂, arith, length-append}
-use Rattle.std.specs.List.{range_with_len, flat_map, AllByRecursion as All}
+use Rattle.std.specs.List.{range_with_len, flat_map, AllByRecursion}
 use Rattle.std.proofs.lemmas.List.{drop-drop, drop_at}
 use Rattle.std.proofs.lemmas.Bool.{and_from, le-leb, lt-ltb, eq-eqb, ne_eqb, not_from_false}
 use Rattle.sheets.specs.Sheets.{count_of, due, Entry, run, entries, first_unmet, pair_check, pair_checks, entry_check, sheet_check}
@@ -10,7 +10,7 @@ use Rattle.sheets.proofs.Fields.{field_read, field_past, length_field}
 use Rattle.sheets.proofs.Stages.{by_arcs}
 use Rattle.sheets.proofs.Written.{Fit, Read, runs_read, length_runs, length_pairs}
 
-pub all_weaker : {X : Type 0} (P Q : X → Type 0) (xs : List X) → ((x : X) → P x → Q x) → All P xs → All Q xs
+pub all_weaker : {X : Type 0} (P Q : X → Type 0) (xs : List X) → ((x : X) → P x → Q x) → AllByRecursion P xs → AllByRecursion Q xs
 all_weaker P Q [] w h = tt
 all_weaker P Q (x ∷ xs) w h = (w x h.0, all_weaker P Q xs w h.1)
 
@@ -21,7 +21,7 @@ module _ {L : Type 0} (named : ℕ → Option L) where
       ∙ passed 6 (not (eqb e.from e.to)) _ (not_from_false (eqb e.from e.to) (ne_eqb e.from e.to ok.apart))
       ∙ passed 3 (is_some (named e.word)) _ ok.labelled
 
-  entries_met : (n : ℕ) (es : List Entry) → All (EntryOk named n) es → first_unmet (map (entry_check named n) es) ≡ 0
+  entries_met : (n : ℕ) (es : List Entry) → AllByRecursion (EntryOk named n) es → first_unmet (map (entry_check named n) es) ≡ 0
   entries_met n [] h = refl
   entries_met n (e ∷ es) h = unmet_met (entry_check named n e) _ (entry_met n e h.0) ∙ entries_met n es h.1
 
@@ -48,7 +48,7 @@ module _ {L : Type 0} (named : ℕ → Option L) where
         let d = length_runs 0 runs in
         ap length same ∙ omega arith
 
-    fits : All Fit (stated_from 0 runs)
+    fits : AllByRecursion Fit (stated_from 0 runs)
     fits = all_weaker (EntryOk named n) Fit (stated_from 0 runs) (λ e ok. record { to_fits = omega (arith, ok.to_in, law.most); word_fits = ok.fits }) law.arcs
 
     reads : Read bytes 0 (4 + 8 * n) runs

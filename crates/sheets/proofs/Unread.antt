@@ -1,6 +1,6 @@
 -- A sheet that is accepted is the sheet of the runs that it states.
 use Rattle.std.proofs.Common.{◌≡◌, ℕ, zero, suc, ◌+◌, ◌*◌, ◌/◌, ◌%◌, ◌^◌, ◌<◌, ◌≤◌, not, ◌&&◌, eqb, ltb, List, [], ◌∷◌, ◌++◌, map, length, get_or, drop, is_some, Option, sym, refl, ap, ◌∙◌, subst, ap₂, add-zero, arith}
-use Rattle.std.specs.List.{range_with_len, flat_map, AllByRecursion as All}
+use Rattle.std.specs.List.{range_with_len, flat_map, AllByRecursion}
 use Rattle.std.proofs.lemmas.List.FromFn.{length-map-range_with_len}
 use Rattle.std.proofs.lemmas.List.{append_assoc, append-nil, drop_all}
 use Rattle.std.proofs.lemmas.Bool.{and_parts, ltb-true, eqb-false, not-true}
@@ -15,15 +15,15 @@ map_map : {X Y Z : Type 0} (f : Y → Z) (g : X → Y) (xs : List X) → map f (
 map_map f g [] = refl
 map_map f g (x ∷ xs) = ap (λ ys. f (g x) ∷ ys) (map_map f g xs)
 
-all_back : {X : Type 0} (P : X → Type 0) (xs ys : List X) → All P xs → All P ys → All P (xs ++ ys)
+all_back : {X : Type 0} (P : X → Type 0) (xs ys : List X) → AllByRecursion P xs → AllByRecursion P ys → AllByRecursion P (xs ++ ys)
 all_back P [] ys h k = k
 all_back P (x ∷ xs) ys h k = (h.0, all_back P xs ys h.1 k)
 
-all_mapped : {X Y : Type 0} (P : Y → Type 0) (f : X → Y) (xs : List X) → ((x : X) → P (f x)) → All P (map f xs)
+all_mapped : {X Y : Type 0} (P : Y → Type 0) (f : X → Y) (xs : List X) → ((x : X) → P (f x)) → AllByRecursion P (map f xs)
 all_mapped P f [] h = tt
 all_mapped P f (x ∷ xs) h = (h x, all_mapped P f xs h)
 
-all_joined : {X Y : Type 0} (P : Y → Type 0) (f : X → List Y) (xs : List X) → ((x : X) → All P (f x)) → All P (flat_map f xs)
+all_joined : {X Y : Type 0} (P : Y → Type 0) (f : X → List Y) (xs : List X) → ((x : X) → AllByRecursion P (f x)) → AllByRecursion P (flat_map f xs)
 all_joined P f [] h = tt
 all_joined P f (x ∷ xs) h = all_back P (f x) (flat_map f xs) (h x) (all_joined P f xs h)
 
@@ -42,7 +42,7 @@ module _ {L : Type 0} (named : ℕ → Option L) (n : ℕ) where
         fits = w;
       }
 
-  entries_law : (es : List Entry) → first_unmet (map (entry_check named n) es) ≡ 0 → All (λ e. e.word < 2 ^ 32) es → All (EntryOk named n) es
+  entries_law : (es : List Entry) → first_unmet (map (entry_check named n) es) ≡ 0 → AllByRecursion (λ e. e.word < 2 ^ 32) es → AllByRecursion (EntryOk named n) es
   entries_law [] h w = tt
   entries_law (e ∷ es) h w =
       let b = head_met (entry_check named n e) (map (entry_check named n) es) h in
@@ -119,7 +119,7 @@ module _ (bytes : List ℕ) (small : (i : ℕ) → get_or bytes i 0 < 256) where
   entries_stated p (suc m) =
       ap₂ ◌++◌ (sym (map_map (λ (x : Mark). entry p x.to x.word) (mark_at (offset_of bytes p)) (range_with_len 0 (size_of bytes p / 8)))) (entries_stated (p + 1) m)
 
-  words_fit : All (λ e. e.word < 2 ^ 32) (entries bytes)
+  words_fit : AllByRecursion (λ e. e.word < 2 ^ 32) (entries bytes)
   words_fit =
       all_joined (λ e. e.word < 2 ^ 32) (run bytes) (range_with_len 0 (count_of bytes))
       (λ p. all_mapped (λ e. e.word < 2 ^ 32) (entry_at bytes p (offset_of bytes p)) (range_with_len 0 (size_of bytes p / 8)) (λ j. word_fits (offset_of bytes p + 8 * j + 4)))
@@ -145,7 +145,7 @@ module _ (bytes : List ℕ) (small : (i : ℕ) → get_or bytes i 0 < 256) where
           some = omega (arith, m.some, count);
           most = omega (arith, m.most, count);
           few = subst (λ es. length es ≤ 65536) stated m.few;
-          arcs = subst (λ es. All (EntryOk named (length runs_of)) es) stated (subst (λ k. All (EntryOk named k) (entries bytes)) (sym count) (entries_law named n (entries bytes) m.arcs words_fit));
+          arcs = subst (λ es. AllByRecursion (EntryOk named (length runs_of)) es) stated (subst (λ k. AllByRecursion (EntryOk named k) (entries bytes)) (sym count) (entries_law named n (entries bytes) m.arcs words_fit));
         };
         layout = whole ∙ ap (λ k. field k ++ (pair_bytes (4 + 8 * k) runs_of ++ flat_map run_bytes runs_of)) (sym count);
       }

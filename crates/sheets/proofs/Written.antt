@@ -1,7 +1,7 @@
 -- What is read in the bytes of given runs.
 use Rattle.std.proofs.Common.{◌≡◌, ℕ, suc, ◌+◌, ◌*◌, ◌/◌, ◌^◌, ◌<◌, ◌≤◌, List, [], ◌∷◌, ◌++◌, map, length, drop, sym, refl, ap, ◌∙◌, ap₂, add-zero, arith, length-append}
 use lib.ListN.{length-map}
-use Rattle.std.specs.List.{range_with_len, flat_map, AllByRecursion as All}
+use Rattle.std.specs.List.{range_with_len, flat_map, AllByRecursion}
 use Rattle.std.proofs.lemmas.List.{append_assoc}
 use Rattle.sheets.specs.Sheets.{offset_of, size_of, due, Entry, entry, entry_at, run, run_at, first_unmet, pair_check}
 use Rattle.sheets.specs.Layout.{field, Mark, run_bytes, pair_bytes, stated_from}
@@ -17,7 +17,7 @@ pub record Fit (e : Entry) : Type 0 where
   pub to_fits : e.to < 2 ^ 32
   pub word_fits : e.word < 2 ^ 32
 
-pub all_front : {X : Type 0} (P : X → Type 0) (xs ys : List X) → All P (xs ++ ys) → All P xs × All P ys
+pub all_front : {X : Type 0} (P : X → Type 0) (xs ys : List X) → AllByRecursion P (xs ++ ys) → AllByRecursion P xs × AllByRecursion P ys
 all_front P [] ys h = (tt, h)
 all_front P (x ∷ xs) ys h = let r = all_front P xs ys h.1 in ((h.0, r.0), r.1)
 
@@ -43,7 +43,7 @@ length_pairs at (r ∷ rs) =
     length_field at (field (8 * length r) ++ pair_bytes (at + 8 * length r) rs) ∙ ap (λ k. 4 + k) (length_field (8 * length r) (pair_bytes (at + 8 * length r) rs)) ∙ omega arith
 
 module _ (bytes : List ℕ) where
-  run_read : (p at j : ℕ) (r : List Mark) (rest : List ℕ) → All Fit (map (of p) r) → drop (at + 8 * j) bytes ≡ run_bytes r ++ rest
+  run_read : (p at j : ℕ) (r : List Mark) (rest : List ℕ) → AllByRecursion Fit (map (of p) r) → drop (at + 8 * j) bytes ≡ run_bytes r ++ rest
       → (map (entry_at bytes p at) (range_with_len j (length r)) ≡ map (of p) r) × (drop (at + 8 * (j + length r)) bytes ≡ rest)
   run_read p at j [] rest fit here = (refl, ap (λ k. drop (at + 8 * k) bytes) (add-zero j) ∙ here)
   run_read p at j (m ∷ r) rest fit here =
@@ -62,7 +62,7 @@ module _ (bytes : List ℕ) where
     pub paired : first_unmet (map (pair_check bytes) (range_with_len p (length rs))) ≡ 0
     pub ended : due bytes (p + length rs) ≡ at + 8 * length (stated_from p rs)
 
-  pub runs_read : (p at : ℕ) (rs : List (List Mark)) (rest : List ℕ) → All Fit (stated_from p rs)
+  pub runs_read : (p at : ℕ) (rs : List (List Mark)) (rest : List ℕ) → AllByRecursion Fit (stated_from p rs)
       → drop (4 + 8 * p) bytes ≡ pair_bytes at rs ++ rest → drop at bytes ≡ flat_map run_bytes rs → due bytes p ≡ at
       → at + 8 * length (stated_from p rs) ≤ length bytes → length bytes < 2 ^ 32 → Read p at rs
   runs_read p at [] rest fit table body begun inside small =

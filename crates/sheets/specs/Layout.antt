@@ -1,6 +1,6 @@
 -- The layout of a sheet: which bytes state which runs.
 use Rattle.std.specs.Prelude.{◌≡◌, ℕ, ◌+◌, ◌*◌, ◌/◌, ◌%◌, ◌^◌, ◌<◌, ◌≤◌, true, List, [], ◌∷◌, ◌++◌, map, length, is_some, Option}
-use Rattle.std.specs.List.{flat_map, AllByRecursion as All}
+use Rattle.std.specs.List.{flat_map, AllByRecursion}
 use Rattle.sheets.specs.Sheets.{Entry, entry}
 
 -- a 32-bit field, lowest byte first
@@ -40,7 +40,7 @@ pub record Lawful {L : Type 0} (named : ℕ → Option L) (runs : List (List Mar
   pub some : 1 ≤ length runs
   pub most : length runs ≤ 1024
   pub few : length (stated_from 0 runs) ≤ 65536
-  pub arcs : All (EntryOk named (length runs)) (stated_from 0 runs)
+  pub arcs : AllByRecursion (EntryOk named (length runs)) (stated_from 0 runs)
 
 -- the bytes are the sheet of these lawful runs
 pub record States {L : Type 0} (named : ℕ → Option L) (bytes : List ℕ) (runs : List (List Mark)) : Type 0 where

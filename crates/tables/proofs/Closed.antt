@@ -1,6 +1,6 @@
 -- Tables of exactly n × n cells, and what a closing leaves of a longer one.
 use Rattle.std.proofs.Common.{◌≡◌, ℕ, ◌*◌, ◌<◌, Bool, true, false, cond, ◌||◌, List, [], ◌∷◌, ◌++◌, length, take, drop, is_ok, Ok, Err, filter, Result, sym, refl, ap, ◌∙◌, subst, ap₂, inl, inr, true≢false}
-use Rattle.std.specs.List.{AllByRecursion as All}
+use Rattle.std.specs.List.{AllByRecursion}
 use Rattle.std.proofs.lemmas.List.{take_at}
 use Rattle.labels.specs.Algebra.{Ops, Laws, Absorbs, Exact}
 use Rattle.paths.specs.declared.arc.Arc.{Arc}
@@ -14,7 +14,7 @@ use Rattle.paths.proofs.Closures.{closure}
 use Rattle.catalogue.specs.Meanings.{Meaning, ArcOk, Sound, free_ends, in_force}
 use Rattle.tables.specs.Closings.{labels, closed, closing_leaves, short, rounds_answer}
 
-of_kept : {A : Type 0} (P : A → Type 0) (test : A → Bool) (xs : List A) → All P xs → (x : A) → Mem x (filter test xs) → P x
+of_kept : {A : Type 0} (P : A → Type 0) (test : A → Bool) (xs : List A) → AllByRecursion P xs → (x : A) → Mem x (filter test xs) → P x
 of_kept P test [] all x m = elim m [ ]
 of_kept P test (y ∷ xs) all x m = go (test y) (λ k. of_kept P test xs all.1 x k) m
   where

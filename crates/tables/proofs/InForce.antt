@@ -1,6 +1,6 @@
 -- Going through the places of a stock.
 use Rattle.std.proofs.Common.{◌≡◌, ℕ, zero, suc, ◌+◌, ◌<◌, ◌≤◌, true, false, cond, List, [], ◌∷◌, ◌++◌, length, take, Some, None, filter, Option, sym, refl, ap, ◌∙◌, subst, inl, inr, append-nil, add-one, arith, take_all}
-use Rattle.std.specs.List.{AllByRecursion as All, slice_get}
+use Rattle.std.specs.List.{AllByRecursion, slice_get}
 use Rattle.std.proofs.ByRecursion.{all_kept_by}
 use Rattle.labels.specs.Algebra.{Ops}
 use Rattle.paths.specs.declared.arc.Arc.{Arc}
@@ -17,13 +17,13 @@ abbrev listed : {A : Type 0} → Option A → List A
 listed None = []
 listed (Some a) = a ∷ []
 
-mem_all : {A : Type 0} (P : A → Type 0) (xs : List A) (a : A) → All P xs → Mem a xs → P a
+mem_all : {A : Type 0} (P : A → Type 0) (xs : List A) (a : A) → AllByRecursion P xs → Mem a xs → P a
 mem_all P [] a h m = elim m [ ]
 mem_all P (x ∷ xs) a h (inl e) = subst P (sym e) h.0
 mem_all P (x ∷ xs) a h (inr m) = mem_all P xs a h.1 m
 
 module _ {K : Type 0} (m : Meaning K) where
-  if_at : (P : Arc K → Type 0) (xs : List (Arc K)) (k : ℕ) → All P xs → If P (unheld m (slice_get xs k))
+  if_at : (P : Arc K → Type 0) (xs : List (Arc K)) (k : ℕ) → AllByRecursion P xs → If P (unheld m (slice_get xs k))
   if_at P [] k h = tt
   if_at P (x ∷ xs) zero h = elim (free_ends m x) as (λ b. If P (cond b (Some x) None)) [ true ↦ h.0 | false ↦ tt ]
   if_at P (x ∷ xs) (suc k) h = if_at P xs k h.1

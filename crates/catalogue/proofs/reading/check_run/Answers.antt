@@ -10,18 +10,18 @@ use Rattle.catalogue.proofs.reading.check_run.Goals as goal
 pub loop-j-preserved : goal.loop-j-preserved
 loop-j-preserved g c =
     let bytes = c.args.bytes.now in
-    let chk = entry_check g.row.K-Label.named c.args.n in
+    let chk = entry_check g.K.Label.named c.args.n in
     let item = entry_at bytes c.args.p c.args.at in
     let e : entry c.args.p c.word-to.result c.word-label.result ≡ item c.loop-j.j = simp (c.word-to.ensures, c.word-label.ensures) in
-    c.loop-j.invariant ∙ items_more chk item c.loop-j.j c.args.many c.loop-j-test.true (ap chk (sym e) ∙ sym c.in-ok-check-arc.ensures)
+    c.loop-j.invariant ∙ items_more chk item c.loop-j.j c.args.many c.loop-j-test.true (ap chk (sym e) ∙ sym c.in_ok-check_arc.ensures)
 
-pub returns-in-err-check-arc : goal.returns-in-err-check-arc
-returns-in-err-check-arc g c =
+pub returns-in_err-check_arc : goal.returns-in_err-check_arc
+returns-in_err-check_arc g c =
     let bytes = c.args.bytes.now in
-    let chk = entry_check g.row.K-Label.named c.args.n in
+    let chk = entry_check g.K.Label.named c.args.n in
     let item = entry_at bytes c.args.p c.args.at in
     let e : entry c.args.p c.word-to.result c.word-label.result ≡ item c.loop-j.j = simp (c.word-to.ensures, c.word-label.ensures) in
-    let p = err_from_is_err_and c.from-residual.result c.from-residual.ensures.1 in
-    let why = c.in-err-check-arc.field-0.0 in
+    let p = err_from_is_err_and c.from_residual.result c.from_residual.ensures.1 in
+    let why = c.in_err-check_arc.field-0.0 in
     ap verdict p.1 ∙ ap number p.2
-    ∙ sym (c.loop-j.invariant ∙ items_stop chk item c.loop-j.j c.args.many c.loop-j-test.true (number why) (ap chk (sym e) ∙ sym c.in-err-check-arc.ensures) (numbered why))
+    ∙ sym (c.loop-j.invariant ∙ items_stop chk item c.loop-j.j c.args.many c.loop-j-test.true (number why) (ap chk (sym e) ∙ sym c.in_err-check_arc.ensures) (numbered why))

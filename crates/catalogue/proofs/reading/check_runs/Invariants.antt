@@ -5,5 +5,5 @@ use Rattle.catalogue.proofs.reading.check_runs.Given as goal
 
 abbrev pub invariant-loop-p : goal.invariant-loop-p
 invariant-loop-p g l =
-    first_unmet (map (entry_check g.row.K-Label.named l.n) (entries l.bytes))
-    ≡ first_unmet (map (entry_check g.row.K-Label.named l.n) (flat_map (run l.bytes) (range_with_len l.p (l.n - l.p))))
+    first_unmet (map (entry_check g.K.Label.named l.n) (entries l.bytes))
+    ≡ first_unmet (map (entry_check g.K.Label.named l.n) (flat_map (run l.bytes) (range_with_len l.p (l.n - l.p))))

@@ -1,17 +1,17 @@
-use Rattle.std.proofs.Common.{◌≡◌, ap, ◌∙◌, take_all}
+use Rattle.std.proofs.Common.{ap, ◌∙◌, take_all}
 use Rattle.catalogue.specs.Runs.{step, reckon}
 use Rattle.catalogue.proofs.Reckoning.{reckon_more}
 use Rattle.catalogue.proofs.runs.run.Goals as goal
 
 pub loop-call-preserved : goal.loop-call-preserved
 loop-call-preserved g c =
-    let o = g.row.C-Label-Label.ops in
+    let o = g.C.Label.Label.ops in
     let m = g.C.Catalogue.meaning c.args.catalogue.now in
     let x = c.call-item.result in
-    let e = c.make-call.ensures in
+    let e = c.make_call.ensures in
     (e.stays, e.reckoned ∙ ap (λ k. step o k x) c.loop-call.invariant.1 ∙ reckon_more o m c.args.calls.now c.loop-call.call-index x c.loop-call-test.true c.call-item.is)
 
 pub returns : goal.returns
 returns g c =
     let m = g.C.Catalogue.meaning c.args.catalogue.now in
-    record { stays = c.loop-call.invariant.0; reckoned = c.loop-call.invariant.1 ∙ ap (reckon g.row.C-Label-Label.ops m) (take_all _ _ c.loop-call-test.false) }
+    record { stays = c.loop-call.invariant.0; reckoned = c.loop-call.invariant.1 ∙ ap (reckon g.C.Label.Label.ops m) (take_all _ _ c.loop-call-test.false) }

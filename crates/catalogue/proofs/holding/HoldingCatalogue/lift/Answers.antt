@@ -1,4 +1,4 @@
-use Rattle.std.proofs.Common.{◌≡◌, ◌≤◌, length, sym, ap, ◌∙◌, subst, arith, length-take}
+use Rattle.std.proofs.Common.{◌≤◌, length, sym, ap, ◌∙◌, subst, arith, length-take}
 use Rattle.catalogue.specs.Holds.{packages, OwnOk, held_over}
 use Rattle.catalogue.proofs.Listed.{without_none}
 use Rattle.catalogue.proofs.Held.{out_ok, lift_taken, lift_out, let_ok, lift_same, lift_passed}

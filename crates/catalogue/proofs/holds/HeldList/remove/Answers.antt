@@ -1,6 +1,6 @@
 use Rattle.std.proofs.Common.{◌≡◌, true, false, not, eqb, get_or, sym, ◌∙◌, arith}
 use Rattle.std.proofs.lemmas.List.{get_or_default}
-use Rattle.std.proofs.lemmas.List.Filters.{FiltersInPlace, FiltersInPlace-more_no, FiltersInPlace-more_set}
+use Rattle.std.proofs.lemmas.List.Filters.{FiltersInPlace-more_no, FiltersInPlace-more_set}
 use Rattle.catalogue.proofs.Listed.{out_rest, out_found}
 use Rattle.catalogue.proofs.holds.HeldList.remove.Goals as goal
 use Rattle.catalogue.proofs.holds.HeldList.remove.Goals.{then-stays, else-stays}

@@ -1,4 +1,4 @@
-use Rattle.std.proofs.Common.{◌≡◌, ◌+◌, set, Err, sym, ap, ◌∙◌, subst, ap₂}
+use Rattle.std.proofs.Common.{set, Err, sym, ap, ◌∙◌, subst, ap₂}
 use Rattle.std.proofs.lemmas.Result.{err_from_is_err_and}
 use Rattle.paths.specs.Arcs.{arc}
 use Rattle.catalogue.specs.Refusals.{answer, number}
@@ -7,14 +7,14 @@ use Rattle.catalogue.proofs.Accepting.{admit_stood}
 use Rattle.catalogue.proofs.Entries.{has_room, entry_ok, entry_leaves}
 use Rattle.catalogue.proofs.ledger.LedgerCatalogue.admit.Goals as goal
 
-pub returns-in-err-check-admit : goal.returns-in-err-check-admit
-returns-in-err-check-admit g c =
-    let o = g.row.K-Label.ops in
+pub returns-in_err-check_admit : goal.returns-in_err-check_admit
+returns-in_err-check_admit g c =
+    let o = g.K.Label.ops in
     let s = c.args.self.now in
     let m = ledger s.n s.len s.arcs.now in
-    let p = err_from_is_err_and c.from-residual.result c.from-residual.ensures.1 in
-    let why = c.in-err-check-admit.field-0.0 in
-    let told = c.in-err-check-admit.ensures s.len s.arcs.now (sym c.places-left.ensures) in
+    let p = err_from_is_err_and c.from_residual.result c.from_residual.ensures.1 in
+    let why = c.in_err-check_admit.field-0.0 in
+    let told = c.in_err-check_admit.ensures s.len s.arcs.now (sym c.places_left.ensures) in
     record {
       stays = c.requires;
       answers = ap answer p.1 ∙ ap (λ e. answer (Err e)) p.2 ∙ told;
@@ -24,13 +24,13 @@ returns-in-err-check-admit g c =
 pub append-self-requires : goal.append-self-requires
 append-self-requires g c =
     let s = c.args.self.now in
-    has_room g.row.K-Label.ops g.met.K.Label.exact s.n s.len s.arcs.now c.args.from c.args.to c.args.label c.requires (sym (c.in-ok-check-admit.ensures s.len s.arcs.now (sym c.places-left.ensures)))
+    has_room g.K.Label.ops g.met.K.Label.exact s.n s.len s.arcs.now c.args.from c.args.to c.args.label c.requires (sym (c.in_ok-check_admit.ensures s.len s.arcs.now (sym c.places_left.ensures)))
 
 pub returns : goal.returns
 returns g c =
-    let o = g.row.K-Label.ops in
+    let o = g.K.Label.ops in
     let s = c.args.self.now in
-    let told = c.in-ok-check-admit.ensures s.len s.arcs.now (sym c.places-left.ensures) in
+    let told = c.in_ok-check_admit.ensures s.len s.arcs.now (sym c.places_left.ensures) in
     let e = c.append-self.ensures in
     let f = c.args.from in
     let t = c.args.to in

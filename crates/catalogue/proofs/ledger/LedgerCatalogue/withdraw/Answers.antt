@@ -5,9 +5,9 @@ use Rattle.catalogue.proofs.ledger.LedgerCatalogue.withdraw.Goals as goal
 
 pub returns-then-taken-eq0 : goal.returns-then-taken-eq0
 returns-then-taken-eq0 g c =
-    let o = g.row.K-Label.ops in
+    let o = g.K.Label.ops in
     let s = c.args.self.now in
-    let d = c.drop-between-taken in
+    let d = c.drop_between-taken in
     let e = d.ensures in
     let f = c.args.from in
     let t = c.args.to in
@@ -22,9 +22,9 @@ returns-then-taken-eq0 g c =
 
 pub returns : goal.returns
 returns g c =
-    let o = g.row.K-Label.ops in
+    let o = g.K.Label.ops in
     let s = c.args.self.now in
-    let d = c.drop-between-taken in
+    let d = c.drop_between-taken in
     let e = d.ensures in
     let f = c.args.from in
     let t = c.args.to in

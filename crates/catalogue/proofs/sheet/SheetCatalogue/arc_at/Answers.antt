@@ -6,26 +6,26 @@ use Rattle.catalogue.proofs.SheetArcs.{arc_found, arc_past}
 use Rattle.catalogue.proofs.sheet.SheetCatalogue.arc_at.Goals as goal
 
 pub returns-then-k-self : goal.returns-then-k-self
-returns-then-k-self g c = arc_past g.row.K-Label.named g.row.K-Label.ops.none c.args.self.now.bytes.now c.requires.met c.args.k (omega (arith, c.requires.stocked))
+returns-then-k-self g c = arc_past g.K.Label.named g.K.Label.ops.none c.args.self.now.bytes.now c.requires.met c.args.k (omega (arith, c.requires.stocked))
 
-pub place-of-at-requires : goal.place-of-at-requires
-place-of-at-requires g c =
-    let m = all_met g.row.K-Label.named c.args.self.now.bytes.now c.requires.met in
+pub place_of-at-requires : goal.place_of-at-requires
+place_of-at-requires g c =
+    let m = all_met g.K.Label.named c.args.self.now.bytes.now c.requires.met in
     omega (arith, c.requires.stocked, m.few)
 
 pub source-from-requires : goal.source-from-requires
 source-from-requires g c =
     let bytes = c.args.self.now.bytes.now in
-    let m = all_met g.row.K-Label.named bytes c.requires.met in
+    let m = all_met g.K.Label.named bytes c.requires.met in
     let n : c.args.self.now.n ≡ count_of bytes = c.requires.count in
     let first = (pairs_ok bytes m.pairs 0 (omega (arith, m.some))).placed in
     (omega (arith, m.some), (omega (arith, m.most), (omega (arith, m.table), omega (arith, first))))
 
-pub arc-in-requires : goal.arc-in-requires
-arc-in-requires g c =
+pub arc_in-requires : goal.arc_in-requires
+arc_in-requires g c =
     let bytes = c.args.self.now.bytes.now in
-    let m = all_met g.row.K-Label.named bytes c.requires.met in
-    let total = entries_length g.row.K-Label.named bytes m.pairs in
+    let m = all_met g.K.Label.named bytes c.requires.met in
+    let total = entries_length g.K.Label.named bytes m.pairs in
     omega (arith, c.requires.stocked, c.requires.count, m.ends)
 
 pub returns : goal.returns
@@ -34,6 +34,6 @@ returns g c =
     let bytes = c.args.self.now.bytes.now in
     let n : s.n ≡ count_of bytes = c.requires.count in
     let from = c.source-from.ensures in
-    c.arc-in.ensures
-    ∙ arc_found g.row.K-Label.named g.row.K-Label.ops.none bytes c.requires.met c.args.k c.source-from.result c.place-of-at.result
+    c.arc_in.ensures
+    ∙ arc_found g.K.Label.named g.K.Label.ops.none bytes c.requires.met c.args.k c.source-from.result c.place_of-at.result
     (omega (arith, c.requires.stocked)) (omega arith) (omega (arith, from.inside)) from.begun (λ h. from.last (omega arith))

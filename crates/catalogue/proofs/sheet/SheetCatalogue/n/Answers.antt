@@ -3,4 +3,4 @@ use Rattle.catalogue.proofs.sheet.SheetCatalogue.n.Goals as goal
 
 pub returns : goal.returns
 returns g c =
-    record { value = c.requires.count; sound = sheet_sound g.row.K-Label.ops g.row.K-Label.named g.met.K.Label.unnamed c.args.self.now.bytes.now c.requires.met }
+    record { value = c.requires.count; sound = sheet_sound g.K.Label.ops g.K.Label.named g.met.K.Label.unnamed c.args.self.now.bytes.now c.requires.met }

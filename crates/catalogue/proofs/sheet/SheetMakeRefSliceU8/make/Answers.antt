@@ -9,8 +9,8 @@ use Rattle.catalogue.proofs.sheet.SheetMakeRefSliceU8.make.Goals as goal
 
 pub returns-in-Ok : goal.returns-in-Ok
 returns-in-Ok g c =
-    let named = g.row.K-Label.named in
-    let none = g.row.K-Label.ops.none in
+    let named = g.K.Label.named in
+    let none = g.K.Label.ops.none in
     let bytes = c.args.bytes.now in
     let met = sym c.in-Ok.ensures.checks in
     let n = c.in-Ok.ensures.count in
@@ -20,18 +20,18 @@ returns-in-Ok g c =
     record {
       answers = told;
       stands = record { count = n; stocked = omega (arith, n, m.ends); met = met };
-      exact = exactly named none bytes (λ i. omega (arith, c.type-inv.bytes i)) (Ok (sheet named none bytes)) told;
+      exact = exactly named none bytes (λ i. omega (arith, c.type_inv.bytes i)) (Ok (sheet named none bytes)) told;
     }
 
 pub returns-in-Err : goal.returns-in-Err
 returns-in-Err g c =
-    let named = g.row.K-Label.named in
-    let none = g.row.K-Label.ops.none in
+    let named = g.K.Label.named in
+    let none = g.K.Label.ops.none in
     let bytes = c.args.bytes.now in
     let why = c.in-Err.refusal in
     let told = refused_by why (sheet_check named bytes) (sheet named none bytes) c.in-Err.ensures.checks in
     record {
       answers = told;
       stands = tt;
-      exact = exactly named none bytes (λ i. omega (arith, c.type-inv.bytes i)) (Err (number why)) told;
+      exact = exactly named none bytes (λ i. omega (arith, c.type_inv.bytes i)) (Err (number why)) told;
     }

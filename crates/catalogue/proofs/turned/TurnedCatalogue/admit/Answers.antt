@@ -6,7 +6,7 @@ use Rattle.catalogue.proofs.turned.TurnedCatalogue.admit.Goals as goal
 pub returns : goal.returns
 returns g c =
     let m = g.C.Catalogue.meaning c.args.self.now.below in
-    let o = g.row.C-Label-Label.ops in
+    let o = g.C.Label.Label.ops in
     let e = c.admit_turned.ensures in
     record {
       stays = e.stays;

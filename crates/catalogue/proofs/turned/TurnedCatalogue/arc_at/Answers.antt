@@ -6,4 +6,4 @@ use Rattle.catalogue.proofs.turned.TurnedCatalogue.arc_at.Goals as goal
 
 pub returns : goal.returns
 returns g c =
-    c.turned-arc.ensures ∙ ap (option_map turn) c.arc-at.ensures ∙ turned_at (g.C.Catalogue.meaning c.args.self.now.below) c.args.k
+    c.turned_arc.ensures ∙ ap (option_map turn) c.arc_at.ensures ∙ turned_at (g.C.Catalogue.meaning c.args.self.now.below) c.args.k
