@@ -1,6 +1,5 @@
 -- From what a line reads as to what its parsing answers.
-use Rattle.std.proofs.Common.{◌≡◌, ℕ, List, Some, None, Ok, Err, Option, Result, sym, refl, ap, ◌∙◌, arith}
-use Rattle.catalogue.specs.declared.refusal.Refusal.{Refusal}
+use Rattle.std.proofs.Common.{◌≡◌, ℕ, List, Some, None, Ok, Err, refl, ap, arith}
 use Rattle.catalogue.specs.declared.refusal.Refusal.TheVariants.{NotCommand}
 use Rattle.console.specs.declared.command.Command.{Command}
 use Rattle.console.specs.Grammar.{Reads, Exactly}

@@ -1,5 +1,5 @@
 -- Rows within a table of n × n cells.
-use Rattle.std.proofs.Common.{ℕ, zero, suc, ◌+◌, ◌*◌, ◌<◌, ◌≤◌, suc-mul, arith}
+use Rattle.std.proofs.Common.{ℕ, suc, ◌+◌, ◌*◌, ◌<◌, ◌≤◌, suc-mul, arith}
 use Rattle.std.proofs.lemmas.Nat.{mul-le}
 
 pub row_within : (n p : ℕ) → p < n → p * n + n ≤ n * n

@@ -1,11 +1,11 @@
 -- Tables of exactly n × n cells, and what a closing leaves of a longer one.
-use Rattle.std.proofs.Common.{◌≡◌, ℕ, ◌*◌, ◌<◌, Bool, true, false, cond, ◌||◌, List, [], ◌∷◌, ◌++◌, length, take, drop, is_ok, Ok, Err, filter, Result, sym, refl, ap, ◌∙◌, subst, ap₂, inl, inr, true≢false}
+use Rattle.std.proofs.Common.{◌≡◌, ℕ, ◌*◌, ◌<◌, Bool, true, false, cond, ◌||◌, List, [], ◌∷◌, length, take, drop, is_ok, Ok, Err, filter, Result, sym, ap, ◌∙◌, subst, ap₂, inl, inr, true≢false}
 use Rattle.std.specs.List.{AllByRecursion}
 use Rattle.std.proofs.lemmas.List.{take_at}
 use Rattle.labels.specs.Algebra.{Ops, Laws, Absorbs, Exact}
 use Rattle.paths.specs.declared.arc.Arc.{Arc}
 use Rattle.paths.specs.Chains.{Mem, L}
-use Rattle.paths.specs.Tables.{cell, Shows, table, eliminated, LeastStill, rounds_made}
+use Rattle.paths.specs.Tables.{cell, Shows, eliminated, LeastStill, rounds_made}
 use Rattle.paths.specs.Closures.{Closure}
 use Rattle.paths.proofs.Written.{shown, length_table}
 use Rattle.paths.proofs.Eliminated.{eliminated_all}

@@ -1,5 +1,5 @@
 -- Reading a row, and a pair's label from the row of a closed table.
-use Rattle.std.proofs.Common.{◌≡◌, ℕ, ◌+◌, ◌-◌, ◌*◌, ◌<◌, ◌≤◌, Bool, true, false, cond, not, ◌&&◌, ◌||◌, leb, List, ◌++◌, length, get_or, drop, is_ok, Ok, Err, Result, sym, refl, ap, ◌∙◌, subst, ap₂, true≢false, arith, length-append, ltb-false, le-ltb, le-leb, leb-false}
+use Rattle.std.proofs.Common.{◌≡◌, ℕ, ◌+◌, ◌*◌, ◌<◌, ◌≤◌, Bool, true, false, cond, not, ◌&&◌, ◌||◌, leb, List, length, get_or, drop, is_ok, Ok, Err, Result, sym, refl, ap, ◌∙◌, subst, ap₂, true≢false, arith, length-append, ltb-false, le-ltb, le-leb, leb-false}
 use borrow.Author.Tests.{lt-leb}
 use Rattle.std.specs.List.{between}
 use Rattle.std.proofs.lemmas.List.Edits.{length-between, get_or-between}
@@ -11,7 +11,6 @@ use Rattle.paths.specs.Chains.{L}
 use Rattle.paths.proofs.Written.{get_or_table, length_table}
 use Rattle.catalogue.specs.Refusals.{on_ok}
 use Rattle.catalogue.specs.Meanings.{Meaning, Sound, in_force}
-use Rattle.catalogue.specs.Calls.{outside}
 use Rattle.tables.specs.Closings.{short, labels, closed, elimination_answer, label_answer}
 use Rattle.tables.specs.Rows.{row_answer}
 use Rattle.tables.proofs.Areas.{row_within}

@@ -25,8 +25,8 @@ loop-k-preserved g c =
     let n = c.args.n in
     let k = c.loop-k.k in
     let cells = c.loop-k.cells in
-    elim c.match-arc-at.branch [
+    elim c.match-arc_at.branch [
       | in-Some w ↦ singles_more o g.met.Label.Label.laws m n k cells c.loop-k.invariant c.requires.sound c.requires.size (omega (arith, c.loop-k.auto.cells, c.clear.auto.cells, c.requires.square))
-          w.in-Some.arc w.in-Some.ensures w.place.result w.place.ensures.is c.match-arc-at.cells w.join-to.new.cells w.cells-is w.join-to.ensures
-      | in-None w ↦ along_none m o n (λ arcs. L o arcs 1) k cells c.match-arc-at.cells c.loop-k.invariant w.in-None.ensures w.cells-is
+          w.in-Some.arc w.in-Some.ensures w.place.result w.place.ensures.is c.match-arc_at.cells w.join_to.new.cells w.cells-is w.join_to.ensures
+      | in-None w ↦ along_none m o n (λ arcs. L o arcs 1) k cells c.match-arc_at.cells c.loop-k.invariant w.in-None.ensures w.cells-is
     ]

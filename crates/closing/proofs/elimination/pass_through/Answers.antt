@@ -10,8 +10,8 @@ use Rattle.closing.proofs.elimination.pass_through.Goals.{then-leads, else-leads
 pub bounds-cells-i : goal.bounds-cells-i
 bounds-cells-i g c = omega (arith, mul-add-lt c.loop-i.i c.args.n c.args.k c.args.n c.loop-i-test.true c.requires.over)
 
-pub offset-bounds-cells-i : goal.offset-bounds-cells-i
-offset-bounds-cells-i g c =
+pub offset_bounds-cells-i : goal.offset_bounds-cells-i
+offset_bounds-cells-i g c =
     let below : c.loop-i.i * c.args.n + c.args.k < length c.args.cells.now = omega (arith, mul-add-lt c.loop-i.i c.args.n c.args.k c.args.n c.loop-i-test.true c.requires.over) in
     search rules
 
@@ -28,7 +28,7 @@ loop-i-preserved g c =
     row_more o met.laws met.absorbs n k i (cell o n c.args.cells.now) was c.if-leads.cells first c.requires.over c.loop-i-test.true
     c.loop-i.invariant (get_or_read was (i * n + k) first within c.index-cells-i.is o.none)
     (elim c.if-leads.branch [
-      | then-leads w ↦ subst (λ l. Shows o n l (with_ways o first i (cell o n was k) (cell o n was))) (sym w.cells-is) w.relax-within.ensures
+      | then-leads w ↦ subst (λ l. Shows o n l (with_ways o first i (cell o n was k) (cell o n was))) (sym w.cells-is) w.relax_within.ensures
       | else-leads w ↦ subst (λ l. Shows o n l (with_ways o first i (cell o n was k) (cell o n was))) (sym w.cells-is) (row_left o met.laws met.exact n i k first was (sym c.leads.ensures ∙ w.if-leads.false))
     ])
 

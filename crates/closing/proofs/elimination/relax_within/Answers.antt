@@ -5,8 +5,8 @@ use Rattle.tables.specs.Tables.{with_ways}
 use Rattle.tables.proofs.Stages.{column_more, columns_all}
 use Rattle.closing.proofs.elimination.relax_within.Goals as goal
 
-pub relax-cell-requires : goal.relax-cell-requires
-relax-cell-requires g c =
+pub relax_cell-requires : goal.relax_cell-requires
+relax_cell-requires g c =
     let n = c.args.n in
     let j = c.loop-j.j in
     record {
@@ -18,7 +18,7 @@ pub loop-j-preserved : goal.loop-j-preserved
 loop-j-preserved g c =
     let o = g.K.Label.ops in
     column_more o c.args.n c.args.first (cell o c.args.n c.args.cells.now) c.args.i c.args.k c.loop-j.j
-    c.requires.into c.requires.over c.loop-j-test.true c.loop-j.cells c.relax-cell.new.cells (omega arith) c.loop-j.invariant c.relax-cell.ensures
+    c.requires.into c.requires.over c.loop-j-test.true c.loop-j.cells c.relax_cell.new.cells (omega arith) c.loop-j.invariant c.relax_cell.ensures
 
 pub returns : goal.returns
 returns g c =

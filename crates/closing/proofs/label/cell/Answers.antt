@@ -4,8 +4,8 @@ use Rattle.catalogue.specs.Refusals.{on_ok}
 use Rattle.tables.proofs.Reading.{row_length}
 use Rattle.closing.proofs.label.cell.Goals as goal
 
-pub offset-bounds-cells-to : goal.offset-bounds-cells-to
-offset-bounds-cells-to g c = omega (arith, c.requires, row_length c.args.table.now c.args.n c.args.from c.in-Ok.cells.now c.in-Ok.ensures)
+pub offset_bounds-cells-to : goal.offset_bounds-cells-to
+offset_bounds-cells-to g c = omega (arith, c.requires, row_length c.args.table.now c.args.n c.args.from c.in-Ok.cells.now c.in-Ok.ensures)
 
 pub bounds-cells-to : goal.bounds-cells-to
 bounds-cells-to g c = omega (arith, c.requires, row_length c.args.table.now c.args.n c.args.from c.in-Ok.cells.now c.in-Ok.ensures)

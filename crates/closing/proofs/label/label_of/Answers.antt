@@ -10,14 +10,14 @@ returns-in-Ok g c =
     let m = g.C.Catalogue.meaning c.args.catalogue.now in
     let told = c.in-Ok.ensures in
     let old = c.args.table.now in
-    let new = c.by-elimination.new.table in
+    let new = c.by_elimination.new.table in
     let n = c.n-n in
     record {
       answers = c.cell.ensures ∙ label_read o m n.ensures.sound n.result c.args.from c.args.to n.ensures.value
-          (sym c.either-outside.ensures ∙ c.if-either-outside.false) old new told.answers told.leaves;
+          (sym c.either_outside.ensures ∙ c.if-either_outside.false) old new told.answers told.leaves;
       leaves = left_by o m (Ok c.in-Ok.field-0) (answer c.cell.result) old new
           (label_ok o m n.ensures.sound n.result c.args.from c.args.to n.ensures.value
-          (sym c.either-outside.ensures ∙ c.if-either-outside.false) old new told.answers told.leaves
+          (sym c.either_outside.ensures ∙ c.if-either_outside.false) old new told.answers told.leaves
           (answer c.cell.result) c.cell.ensures)
           told.leaves;
     }

@@ -3,8 +3,8 @@ use Rattle.tables.proofs.Areas.{row_within}
 use Rattle.std.proofs.lemmas.Nat.{mul-le}
 use Rattle.closing.proofs.places.row_start.Goals as goal
 
-pub overflow-mul-result : goal.overflow-mul-result
-overflow-mul-result c = omega (arith, mul-le c.args.i c.args.n 1024 1024 (omega arith) c.requires.few)
+pub overflow_mul-result : goal.overflow_mul-result
+overflow_mul-result c = omega (arith, mul-le c.args.i c.args.n 1024 1024 (omega arith) c.requires.few)
 
 pub returns : goal.returns
 returns c = record { is = refl; within = row_within c.args.n c.args.i c.requires.row }

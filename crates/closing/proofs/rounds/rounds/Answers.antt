@@ -16,7 +16,7 @@ returns-then-not-settle g c =
       table = last_table o met.laws (in_force m) n met.absorbs (in_force_to m o n c.requires.sound c.requires.size) t.made t.cells t.changed t.found c.spread.new.found
           s.new.cells s.new.changed s.new.found s.result t.invariant c.spread.ensures (omega arith) s.ensures c.if-not-settle.true;
       count = last_count o met.laws (in_force m) n met.absorbs (in_force_to m o n c.requires.sound c.requires.size) t.made t.cells t.changed t.found c.spread.new.found
-          s.new.cells s.new.changed s.new.found s.result t.invariant c.spread.ensures (omega arith) s.ensures c.one-more-made.result c.one-more-made.ensures c.if-not-settle.true;
+          s.new.cells s.new.changed s.new.found s.result t.invariant c.spread.ensures (omega arith) s.ensures c.one_more-made.result c.one_more-made.ensures c.if-not-settle.true;
     }
 
 pub loop-n-preserved : goal.loop-n-preserved
@@ -28,4 +28,4 @@ loop-n-preserved g c =
     let t = c.loop-n in
     let s = c.settle in
     turn_more o met.laws (in_force m) n met.absorbs (in_force_to m o n c.requires.sound c.requires.size) t.made t.cells t.changed t.found c.spread.new.found
-    s.new.cells s.new.changed s.new.found s.result t.invariant c.spread.ensures (omega arith) s.ensures c.one-more-made.result c.one-more-made.ensures c.if-not-settle.false
+    s.new.cells s.new.changed s.new.found s.result t.invariant c.spread.ensures (omega arith) s.ensures c.one_more-made.result c.one_more-made.ensures c.if-not-settle.false

@@ -5,7 +5,7 @@ use Rattle.closing.proofs.rounds.settle.Goals as goal
 pub loop-u-preserved : goal.loop-u-preserved
 loop-u-preserved g c =
     let l = c.loop-u in
-    let f = c.settle-at-here in
+    let f = c.settle_at-here in
     let e = f.ensures in
     swept_more g.K.Label.ops g.met.K.Label.laws g.met.K.Label.absorbs g.met.K.Label.exact
     c.args.cells.now c.args.found.now l.cells l.changed l.found f.new.cells f.new.changed f.new.found l.u l.moved f.result

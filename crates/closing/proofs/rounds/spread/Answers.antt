@@ -28,8 +28,8 @@ loop-k-preserved g c =
     let S = cell o n c.args.found.now in
     let changed = c.args.changed.now in
     let found = c.loop-k.found in
-    elim c.match-arc-at.branch [
+    elim c.match-arc_at.branch [
       | in-Some w ↦ led_more o g.met.Label.Label.laws m n k S changed found c.loop-k.invariant c.requires.sound c.requires.size c.requires.changed (omega (arith, c.loop-k.auto.found, c.requires.found))
-          w.in-Some.arc w.in-Some.ensures c.match-arc-at.found w.follow.new.found w.found-is w.follow.ensures
-      | in-None w ↦ along_none m o n (led o S (cell o n changed)) k found c.match-arc-at.found c.loop-k.invariant w.in-None.ensures w.found-is
+          w.in-Some.arc w.in-Some.ensures c.match-arc_at.found w.follow.new.found w.found-is w.follow.ensures
+      | in-None w ↦ along_none m o n (led o S (cell o n changed)) k found c.match-arc_at.found c.loop-k.invariant w.in-None.ensures w.found-is
     ]

@@ -4,14 +4,14 @@ use Rattle.console.specs.Grammar.{digits_of}
 use Rattle.console.proofs.Numbers.{digits_step}
 use Rattle.console.proofs.lines.digits.Goals as goal
 
-pub returns-in-err-sum : goal.returns-in-err-sum
-returns-in-err-sum c =
-    let step = digits_step c.args.bytes.now c.loop-byte.byte-index c.loop-byte.sum None c.loop-byte-test.true (sym c.in-err-sum.was ∙ c.grown.ensures) in
-    c.from-residual.ensures ∙ sym step ∙ c.loop-byte.invariant
+pub returns-in_err-sum : goal.returns-in_err-sum
+returns-in_err-sum c =
+    let step = digits_step c.args.bytes.now c.loop-byte.byte-index c.loop-byte.sum None c.loop-byte-test.true (sym c.in_err-sum.was ∙ c.grown.ensures) in
+    c.from_residual.ensures ∙ sym step ∙ c.loop-byte.invariant
 
 pub loop-byte-preserved : goal.loop-byte-preserved
 loop-byte-preserved c =
-    let step = digits_step c.args.bytes.now c.loop-byte.byte-index c.loop-byte.sum (Some c.in-ok-sum.sum) c.loop-byte-test.true (sym c.in-ok-sum.was ∙ c.grown.ensures) in
+    let step = digits_step c.args.bytes.now c.loop-byte.byte-index c.loop-byte.sum (Some c.in_ok-sum.sum) c.loop-byte-test.true (sym c.in_ok-sum.was ∙ c.grown.ensures) in
     sym step ∙ c.loop-byte.invariant
 
 pub returns : goal.returns

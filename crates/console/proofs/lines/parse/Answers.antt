@@ -1,4 +1,4 @@
-use Rattle.std.proofs.Common.{sym, ap, ◌∙◌}
+use Rattle.std.proofs.Common.{ap}
 use Rattle.console.specs.Grammar.{or_16}
 use Rattle.console.proofs.Told.{taken_exactly, refused_exactly}
 use Rattle.console.proofs.lines.parse.Goals as goal

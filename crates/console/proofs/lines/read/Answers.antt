@@ -14,6 +14,6 @@ returns-then-line-gt-LONGEST c =
 pub returns : goal.returns
 returns c =
     let line = c.args.line.now in
-    let r = c.by-letter.result in
-    let e : r ≡ command_of line = c.by-letter.ensures ∙ sym (opened_reads line (sym c.if-not-opens.ensures)) in
+    let r = c.by_letter.result in
+    let e : r ≡ command_of line = c.by_letter.ensures ∙ sym (opened_reads line (sym c.if-not-opens.ensures)) in
     record { value = e; exact = exactly line r e; short = λ long. e ∙ long_none line long; cut = λ rest. cut_same line rest r e }

@@ -8,17 +8,17 @@ returns-then-end-fields c =
     let s = c.space-end.ensures in
     sym (parted_none number_of two_of (λ x p. (x, p.0, p.1)) c.args.fields.now c.space-end.result s.within s.before s.found c.if-end-fields.true)
 
-pub returns-in-err-first : goal.returns-in-err-first
-returns-in-err-first c =
+pub returns-in_err-first : goal.returns-in_err-first
+returns-in_err-first c =
     let s = c.space-end.ensures in
-    c.from-residual.ensures ∙ sym (parted_at number_of two_of (λ x p. (x, p.0, p.1)) c.args.fields.now c.space-end.result s.within s.before s.found None _ c.if-end-fields.false c.in-err-first.ensures refl)
+    c.from_residual.ensures ∙ sym (parted_at number_of two_of (λ x p. (x, p.0, p.1)) c.args.fields.now c.space-end.result s.within s.before s.found None _ c.if-end-fields.false c.in_err-first.ensures refl)
 
-pub returns-in-err-second : goal.returns-in-err-second
-returns-in-err-second c =
+pub returns-in_err-second : goal.returns-in_err-second
+returns-in_err-second c =
     let s = c.space-end.ensures in
-    c.from-residual-in-err-second.ensures ∙ sym (parted_at number_of two_of (λ x p. (x, p.0, p.1)) c.args.fields.now c.space-end.result s.within s.before s.found (Some c.in-ok-first.first) None c.if-end-fields.false c.in-ok-first.ensures c.in-err-second.ensures)
+    c.from_residual-in_err-second.ensures ∙ sym (parted_at number_of two_of (λ x p. (x, p.0, p.1)) c.args.fields.now c.space-end.result s.within s.before s.found (Some c.in_ok-first.first) None c.if-end-fields.false c.in_ok-first.ensures c.in_err-second.ensures)
 
 pub returns : goal.returns
 returns c =
     let s = c.space-end.ensures in
-    sym (parted_at number_of two_of (λ x p. (x, p.0, p.1)) c.args.fields.now c.space-end.result s.within s.before s.found (Some c.in-ok-first.first) (Some (c.in-ok-second.second, c.in-ok-second.third)) c.if-end-fields.false c.in-ok-first.ensures c.in-ok-second.ensures)
+    sym (parted_at number_of two_of (λ x p. (x, p.0, p.1)) c.args.fields.now c.space-end.result s.within s.before s.found (Some c.in_ok-first.first) (Some (c.in_ok-second.second, c.in_ok-second.third)) c.if-end-fields.false c.in_ok-first.ensures c.in_ok-second.ensures)

@@ -9,7 +9,7 @@ returns g c =
     let o = g.K.Label.ops in
     let named = g.K.Label.named in
     let made-0 = ledger_of c.args.n (length c.args.arcs.now) in
-    let first-0 = c.in-ok-ledger.ensures.answers in
+    let first-0 = c.in_ok-ledger.ensures.answers in
     let made-1 = holding_over made-0 in
     let first-1 = laid (held_over []) (first_meaning o named made-0) _ _ first-0 c.over-holding.ensures.means in
     exercised o (first_meaning o named made-1) _ c.args.with c.exercise.result first-1 c.exercise.ensures.answers

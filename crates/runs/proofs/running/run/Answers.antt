@@ -11,7 +11,7 @@ loop-call-preserved g c =
     let now = g.C.Catalogue.meaning c.loop-call.catalogue in
     let calls = c.args.calls.now in
     let x = c.call-item.result in
-    let told = c.make-call.ensures in
+    let told = c.make_call.ensures in
     let kept = c.loop-call.auto in
     let before = c.loop-call in (
       told.stays,

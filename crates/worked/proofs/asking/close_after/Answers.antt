@@ -14,14 +14,14 @@ returns g c =
     let m = reckon o first (alterations steps) in
     let ran = c.run.ensures in
     let kept = c.run.auto in
-    let told = c.close-both.ensures in
-    let r = c.close-both.result in
+    let told = c.close_both.ensures in
+    let r = c.close_both.result in
     let t = lengths c.args.table.now c.args.changed.now c.args.found.now in
     record {
       stays = ran.stays;
       answers = told_after o now m ran.reckoned r (length c.run.new.table) (length c.run.new.changed) (length c.run.new.found)
           (length c.args.table.now) (length c.args.changed.now) (length c.args.found.now) (length c.args.second.now)
-          c.close-both.new.first c.close-both.new.second kept.table kept.changed kept.found told.rounds told.elimination told.agree;
-      leaves = left_after o now m ran.reckoned (answer r.by_rounds) c.run.new.table (tables o first t steps c.args.table.now) c.close-both.new.first ran.leaves told.leaves-first;
-      leaves-second = left_after o now m ran.reckoned (answer r.by_elimination) c.args.second.now c.args.second.now c.close-both.new.second refl told.leaves-second;
+          c.close_both.new.first c.close_both.new.second kept.table kept.changed kept.found told.rounds told.elimination told.agree;
+      leaves = left_after o now m ran.reckoned (answer r.by_rounds) c.run.new.table (tables o first t steps c.args.table.now) c.close_both.new.first ran.leaves told.leaves-first;
+      leaves_second = left_after o now m ran.reckoned (answer r.by_elimination) c.args.second.now c.args.second.now c.close_both.new.second refl told.leaves_second;
     }

@@ -13,11 +13,11 @@ returns g c =
     let now = g.C.Catalogue.meaning c.run.new.catalogue in
     let m = reckon o first (alterations steps) in
     let ran = c.run.ensures in
-    let told = c.label-of.ensures in
-    let r = answer c.label-of.result in
+    let told = c.label_of.ensures in
+    let r = answer c.label_of.result in
     let t = lengths c.args.table.now c.args.changed.now c.args.found.now in
     record {
       stays = ran.stays;
       answers = label_after_is o now m ran.reckoned r (length c.run.new.table) (length c.args.table.now) c.args.from c.args.to c.run.auto.table told.answers;
-      leaves = left_after o now m ran.reckoned r c.run.new.table (tables o first t steps c.args.table.now) c.label-of.new.table ran.leaves told.leaves;
+      leaves = left_after o now m ran.reckoned r c.run.new.table (tables o first t steps c.args.table.now) c.label_of.new.table ran.leaves told.leaves;
     }

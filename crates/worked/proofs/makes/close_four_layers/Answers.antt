@@ -11,7 +11,7 @@ returns g c =
     let o = g.K.Label.ops in
     let named = g.K.Label.named in
     let made-0 = ledger_of c.args.n (length c.args.arcs.now) in
-    let first-0 = c.in-ok-ledger.ensures.answers in
+    let first-0 = c.in_ok-ledger.ensures.answers in
     let made-1 = turned_over made-0 in
     let first-1 = laid turned (first_meaning o named made-0) _ _ first-0 c.over-turned.ensures.means in
     let made-2 = holding_over made-1 in
@@ -21,4 +21,4 @@ returns g c =
     let made-4 = holding_over made-3 in
     let first-4 = laid (held_over []) (first_meaning o named made-3) _ _ first-3 c.over-top.ensures.means in
     told_from o (first_meaning o named made-4) _ c.args.steps.now (lengths c.args.table.now c.args.changed.now c.args.found.now) (length c.args.second.now)
-    c.close-after.new.table c.close-after.new.second c.close-after.result first-4 c.close-after.ensures.answers
+    c.close_after.new.table c.close_after.new.second c.close_after.result first-4 c.close_after.ensures.answers
