@@ -10,7 +10,7 @@ use labels::{Constant, Label};
 
 // Writes none into every cell.
 pub(crate) fn clear<K: Label>(cells: &mut [K])
-    ensures { (u : ℕ) → u < length cells.old → slice_index_or cells.new u ops.none ≡ ops.none }
+    ensures { (u : ℕ) → u < length cells.old → slice_index_or cells.new u K.ops.none ≡ K.ops.none }
 {
     for cell in cells.iter_mut() {
         *cell = K::NONE.label();
@@ -20,7 +20,7 @@ pub(crate) fn clear<K: Label>(cells: &mut [K])
 // Joins a label to a cell.
 fn join_to<K: Label>(cells: &mut [K], at: usize, label: K)
     requires { at < length cells.old }
-    ensures { cells.new ≡ slice_set cells.old at (ops.join (slice_index_or cells.old at ops.none) label) }
+    ensures { cells.new ≡ slice_set cells.old at (K.ops.join (slice_index_or cells.old at K.ops.none) label) }
 {
     cells[at] = cells[at].join(label);
 }

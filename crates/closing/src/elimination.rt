@@ -54,7 +54,7 @@ fn fill<C: Catalogue>(catalogue: &C, n: usize, cells: &mut [C::Label])
 fn eliminate<K: Label>(cells: &mut [K], n: usize)
     requires square { length cells.old ≡ n * n }
     requires few { n ≤ 1024 }
-    ensures { Shows ops n cells.new (eliminated ops (cell ops n cells.old) n) }
+    ensures { Shows K.ops n cells.new (eliminated K.ops (cell K.ops n cells.old) n) }
 {
     for k in 0..n {
         pass_through(cells, n, k);
@@ -66,7 +66,7 @@ fn pass_through<K: Label>(cells: &mut [K], n: usize, k: usize)
     requires square { length cells.old ≡ n * n }
     requires few { n ≤ 1024 }
     requires over { k < n }
-    ensures { Shows ops n cells.new (through ops k (cell ops n cells.old)) }
+    ensures { Shows K.ops n cells.new (through K.ops k (cell K.ops n cells.old)) }
 {
     for i in 0..n {
         let first = cells[i * n + k];
@@ -82,7 +82,7 @@ fn relax_within<K: Label>(cells: &mut [K], n: usize, i: usize, k: usize, first: 
     requires few { n ≤ 1024 }
     requires into { i < n }
     requires over { k < n }
-    ensures { Shows ops n cells.new (with_ways ops first i (cell ops n cells.old k) (cell ops n cells.old)) }
+    ensures { Shows K.ops n cells.new (with_ways K.ops first i (cell K.ops n cells.old k) (cell K.ops n cells.old)) }
 {
     for j in 0..n {
         relax_cell(cells, i * n + j, first, k * n + j);
@@ -93,7 +93,7 @@ fn relax_within<K: Label>(cells: &mut [K], n: usize, i: usize, k: usize, first: 
 fn relax_cell<K: Label>(cells: &mut [K], at: usize, first: K, via: usize)
     requires into { at < length cells.old }
     requires over { via < length cells.old }
-    ensures { cells.new ≡ slice_set cells.old at (ops.join (slice_index_or cells.old at ops.none) (ops.extend first (slice_index_or cells.old via ops.none))) }
+    ensures { cells.new ≡ slice_set cells.old at (K.ops.join (slice_index_or cells.old at K.ops.none) (K.ops.extend first (slice_index_or cells.old via K.ops.none))) }
 {
     cells[at] = relax(cells[at], first, cells[via]);
 }

@@ -40,7 +40,7 @@ fn either_outside(n: u32, from: u32, to: u32) -> bool
 // The cell of a pair, read from the row of `from`.
 fn cell<K: Label>(table: &[K], n: u32, from: u32, to: u32) -> Result<K, Refusal>
     requires { to < n }
-    ensures { answer result ≡ on_ok (λ cells. slice_index_or cells to ops.none) (row_answer table.now n from) }
+    ensures { answer result ≡ on_ok (λ cells. slice_index_or cells to K.ops.none) (row_answer table.now n from) }
 {
     match row(table, n, from) {
         Ok(cells) => Ok(cells[to as usize]),

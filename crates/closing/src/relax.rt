@@ -6,14 +6,14 @@ use labels::{Constant, Label};
 
 // Is there a way at all?
 pub(crate) fn leads<K: Label>(label: K) -> bool
-    ensures { result ≡ not (ops.same label ops.none) }
+    ensures { result ≡ not (K.ops.same label K.ops.none) }
 {
     !label.same(K::NONE.label())
 }
 
 // The cell joined with the way over `first` and then `next`.
 pub(crate) fn relax<K: Label>(cell: K, first: K, next: K) -> K
-    ensures { result ≡ ops.join cell (ops.extend first next) }
+    ensures { result ≡ K.ops.join cell (K.ops.extend first next) }
 {
     cell.join(first.extend(next))
 }
@@ -22,7 +22,7 @@ pub(crate) fn relax<K: Label>(cell: K, first: K, next: K) -> K
 fn relax_at<K: Label>(row: &mut [K], via: &[K], first: K, j: usize)
     requires row { j < length row.old }
     requires via { j < length via.now }
-    ensures { row.new ≡ slice_set row.old j (ops.join (slice_index_or row.old j ops.none) (ops.extend first (slice_index_or via.now j ops.none))) }
+    ensures { row.new ≡ slice_set row.old j (K.ops.join (slice_index_or row.old j K.ops.none) (K.ops.extend first (slice_index_or via.now j K.ops.none))) }
 {
     row[j] = relax(row[j], first, via[j]);
 }
@@ -30,7 +30,7 @@ fn relax_at<K: Label>(row: &mut [K], via: &[K], first: K, j: usize)
 // Every cell of `row` is joined with `first` extended by the cell of `via` at the same column.
 pub(crate) fn relax_row<K: Label>(row: &mut [K], via: &[K], first: K)
     requires { length via.now ≡ length row.old }
-    ensures { row.new ≡ relaxed ops first row.old via.now }
+    ensures { row.new ≡ relaxed K.ops first row.old via.now }
 {
     for j in 0..row.len() {
         relax_at(row, via, first, j);

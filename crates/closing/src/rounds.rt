@@ -116,7 +116,7 @@ fn follow<K: Label>(arc: Arc<K>, n: usize, changed: &[K], found: &mut [K])
     requires to { arc.to < n }
     requires changed { length changed.now ≡ n * n }
     requires found { length found.old ≡ n * n }
-    ensures { found.new ≡ put_row n found.old arc.from (relaxed ops arc.label (row n found.old arc.from) (row n changed.now arc.to)) }
+    ensures { found.new ≡ put_row n found.old arc.from (relaxed K.ops arc.label (row n found.old arc.from) (row n changed.now arc.to)) }
 {
     let from = row_start(arc.from, n);
     let to = row_start(arc.to, n);
@@ -144,10 +144,10 @@ fn spread<C: Catalogue>(catalogue: &C, n: usize, changed: &[C::Label], found: &m
 // Joins to one cell what was found, keeps the new label where it differs, and answers whether it does.
 fn settle_at<K: Label>(cells: &mut [K], changed: &mut [K], found: &mut [K], u: usize) -> bool
     requires { (u < length cells.old) × ((u < length changed.old) × (u < length found.old)) }
-    ensures joined { cells.new ≡ slice_set cells.old u (ops.join (slice_index_or cells.old u ops.none) (slice_index_or found.old u ops.none)) }
-    ensures told { changed.new ≡ slice_set changed.old u (if result then ops.join (slice_index_or cells.old u ops.none) (slice_index_or found.old u ops.none) else ops.none) }
-    ensures clean { found.new ≡ slice_set found.old u ops.none }
-    ensures moved { result ≡ not (ops.same (ops.join (slice_index_or cells.old u ops.none) (slice_index_or found.old u ops.none)) (slice_index_or cells.old u ops.none)) }
+    ensures joined { cells.new ≡ slice_set cells.old u (K.ops.join (slice_index_or cells.old u K.ops.none) (slice_index_or found.old u K.ops.none)) }
+    ensures told { changed.new ≡ slice_set changed.old u (if result then K.ops.join (slice_index_or cells.old u K.ops.none) (slice_index_or found.old u K.ops.none) else K.ops.none) }
+    ensures clean { found.new ≡ slice_set found.old u K.ops.none }
+    ensures moved { result ≡ not (K.ops.same (K.ops.join (slice_index_or cells.old u K.ops.none) (slice_index_or found.old u K.ops.none)) (slice_index_or cells.old u K.ops.none)) }
 {
     let new = cells[u].join(found[u]);
     let moved = !new.same(cells[u]);
@@ -161,7 +161,7 @@ fn settle_at<K: Label>(cells: &mut [K], changed: &mut [K], found: &mut [K], u: u
 fn settle<K: Label>(cells: &mut [K], changed: &mut [K], found: &mut [K]) -> bool
     requires changed { length changed.old ≡ length cells.old }
     requires found { length found.old ≡ length cells.old }
-    ensures { Settled ops cells.old found.old cells.new changed.new found.new (length cells.old) result }
+    ensures { Settled K.ops cells.old found.old cells.new changed.new found.new (length cells.old) result }
 {
     let mut moved = false;
     for u in 0..cells.len() {

@@ -1,4 +1,4 @@
-use Rattle.std.proofs.Common.{◌≡◌, Ok, sym, ◌∙◌}
+use Rattle.std.proofs.Common.{Ok, sym, ◌∙◌}
 use Rattle.catalogue.specs.Refusals.{answer}
 use Rattle.tables.proofs.Reading.{label_read, label_ok}
 use Rattle.tables.proofs.Parts.{left_by}
@@ -6,7 +6,7 @@ use Rattle.closing.proofs.label.label_of.Goals as goal
 
 pub returns-in-Ok : goal.returns-in-Ok
 returns-in-Ok g c =
-    let o = g.Label.Label.ops in
+    let o = g.C.Label.Label.ops in
     let m = g.C.Catalogue.meaning c.args.catalogue.now in
     let told = c.in-Ok.ensures in
     let old = c.args.table.now in

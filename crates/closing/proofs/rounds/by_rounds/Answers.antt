@@ -5,8 +5,8 @@ use Rattle.closing.proofs.rounds.by_rounds.Goals as goal
 
 pub returns : goal.returns
 returns g c =
-    let o = g.Label.Label.ops in
-    let laws = g.met.Label.Label in
+    let o = g.C.Label.Label.ops in
+    let laws = g.met.C.Label.Label in
     let m = g.C.Catalogue.meaning c.args.catalogue.now in
     let told = c.close.ensures in
     record {

@@ -6,8 +6,8 @@ use Rattle.closing.proofs.rounds.rounds.Goals as goal
 
 pub returns-then-not-settle : goal.returns-then-not-settle
 returns-then-not-settle g c =
-    let o = g.Label.Label.ops in
-    let met = g.met.Label.Label in
+    let o = g.C.Label.Label.ops in
+    let met = g.met.C.Label.Label in
     let m = g.C.Catalogue.meaning c.args.catalogue.now in
     let n = c.args.n in
     let t = c.loop-n in
@@ -21,8 +21,8 @@ returns-then-not-settle g c =
 
 pub loop-n-preserved : goal.loop-n-preserved
 loop-n-preserved g c =
-    let o = g.Label.Label.ops in
-    let met = g.met.Label.Label in
+    let o = g.C.Label.Label.ops in
+    let met = g.met.C.Label.Label in
     let m = g.C.Catalogue.meaning c.args.catalogue.now in
     let n = c.args.n in
     let t = c.loop-n in

@@ -8,20 +8,20 @@ use Rattle.closing.proofs.rounds.spread.Goals.{in-Some, in-None}
 
 pub loop-k-init : goal.loop-k-init
 loop-k-init g c =
-    let o = g.Label.Label.ops in
+    let o = g.C.Label.Label.ops in
     let n = c.args.n in
     let found = c.args.found.now in
     along_start (g.C.Catalogue.meaning c.args.catalogue.now) o n (led o (cell o n found) (cell o n c.args.changed.now)) found
-    (λ i j hi hj. sym (none_join o g.met.Label.Label.laws (cell o n found i j)))
+    (λ i j hi hj. sym (none_join o g.met.C.Label.Label.laws (cell o n found i j)))
 
 pub follow-requires : goal.follow-requires
 follow-requires g c =
-    let inside = answered_in (g.C.Catalogue.meaning c.args.catalogue.now) g.Label.Label.ops c.args.n c.loop-k.k c.in-Some.arc c.requires.sound c.requires.size c.in-Some.ensures in
+    let inside = answered_in (g.C.Catalogue.meaning c.args.catalogue.now) g.C.Label.Label.ops c.args.n c.loop-k.k c.in-Some.arc c.requires.sound c.requires.size c.in-Some.ensures in
     record { few = inside.few; from = inside.from_in; to = inside.to_in; changed = c.requires.changed; found = omega (arith, c.loop-k.auto.found, c.requires.found) }
 
 pub loop-k-preserved : goal.loop-k-preserved
 loop-k-preserved g c =
-    let o = g.Label.Label.ops in
+    let o = g.C.Label.Label.ops in
     let m = g.C.Catalogue.meaning c.args.catalogue.now in
     let n = c.args.n in
     let k = c.loop-k.k in
@@ -29,7 +29,7 @@ loop-k-preserved g c =
     let changed = c.args.changed.now in
     let found = c.loop-k.found in
     elim c.match-arc_at.branch [
-      | in-Some w ↦ led_more o g.met.Label.Label.laws m n k S changed found c.loop-k.invariant c.requires.sound c.requires.size c.requires.changed (omega (arith, c.loop-k.auto.found, c.requires.found))
+      | in-Some w ↦ led_more o g.met.C.Label.Label.laws m n k S changed found c.loop-k.invariant c.requires.sound c.requires.size c.requires.changed (omega (arith, c.loop-k.auto.found, c.requires.found))
           w.in-Some.arc w.in-Some.ensures c.match-arc_at.found w.follow.new.found w.found-is w.follow.ensures
       | in-None w ↦ along_none m o n (led o S (cell o n changed)) k found c.match-arc_at.found c.loop-k.invariant w.in-None.ensures w.found-is
     ]

@@ -5,7 +5,7 @@ use Rattle.runs.proofs.running.rounds_within.Goals as goal
 pub returns : goal.returns
 returns g c =
     let told = c.by_rounds.ensures in
-    let whole = rounds_part g.Label.Label.ops (g.C.Catalogue.meaning c.args.catalogue.now) (answer c.by_rounds.result)
+    let whole = rounds_part g.C.Label.Label.ops (g.C.Catalogue.meaning c.args.catalogue.now) (answer c.by_rounds.result)
     c.min-in_table.result c.min-in_changed.result c.min-in_found.result c.args.cells c.args.table.now c.args.changed.now c.args.found.now
     c.by_rounds.new.table c.min-in_table.ensures c.min-in_changed.ensures c.min-in_found.ensures told.answers told.leaves in
     record { answers = whole.0; leaves = whole.1 }

@@ -6,7 +6,7 @@ use Rattle.runs.proofs.running.run.Goals as goal
 
 pub loop-call-preserved : goal.loop-call-preserved
 loop-call-preserved g c =
-    let o = g.Label.Label.ops in
+    let o = g.C.Label.Label.ops in
     let m = g.C.Catalogue.meaning c.args.catalogue.now in
     let now = g.C.Catalogue.meaning c.loop-call.catalogue in
     let calls = c.args.calls.now in
@@ -23,7 +23,7 @@ loop-call-preserved g c =
 
 pub returns : goal.returns
 returns g c =
-    let o = g.Label.Label.ops in
+    let o = g.C.Label.Label.ops in
     let m = g.C.Catalogue.meaning c.args.catalogue.now in
     let all = take_all c.loop-call.call-index c.args.calls.now c.loop-call-test.false in
     record {

@@ -5,7 +5,7 @@ use Rattle.runs.proofs.running.run.Given as goal
 
 abbrev pub invariant-loop-call : goal.invariant-loop-call
 invariant-loop-call g l =
-    let o = g.Label.Label.ops in
+    let o = g.C.Label.Label.ops in
     let m = g.C.Catalogue.meaning l.initial.catalogue in
     let calls = take l.call-index l.calls in
     g.C.Catalogue.valid l.catalogue

@@ -7,7 +7,7 @@ use Rattle.worked.proofs.asking.label_after.Goals as goal
 
 pub returns : goal.returns
 returns g c =
-    let o = g.Label.Label.ops in
+    let o = g.C.Label.Label.ops in
     let first = g.C.Catalogue.meaning c.args.catalogue.now in
     let steps = c.args.steps.now in
     let now = g.C.Catalogue.meaning c.run.new.catalogue in
