@@ -2,7 +2,6 @@
 use Rattle.std.proofs.Common.{◌≡◌, ℕ, List, Ok, Result, ap, ◌∙◌, subst, ap₂}
 use Rattle.labels.specs.Algebra.{Ops}
 use Rattle.catalogue.specs.Refusals.{answer, on_ok}
-use Rattle.catalogue.specs.declared.refusal.Refusal.{Refusal}
 use Rattle.catalogue.specs.Meanings.{Meaning}
 use Rattle.catalogue.specs.Runs.{reckon}
 use Rattle.runs.specs.declared.agreement.Closings.{Closings}

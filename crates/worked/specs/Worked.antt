@@ -1,6 +1,5 @@
 -- Worked cases, each from a making and a list of calls.
 use Rattle.std.specs.Prelude.{◌≡◌, ℕ, List, [], ◌∷◌, ◌++◌, Ok, Result}
-use Rattle.labels.specs.declared.kinds.Reach.{Reach}
 use Rattle.labels.specs.declared.kinds.Reach.TheVariants.{Yes}
 use Rattle.labels.specs.declared.kinds.Minutes.{Minutes}
 use Rattle.labels.specs.declared.kinds.Licence.{Licence}

@@ -1,4 +1,4 @@
-use Rattle.std.proofs.Common.{◌≡◌, ap, ◌∙◌, take_all}
+use Rattle.std.proofs.Common.{ap, ◌∙◌, take_all}
 use Rattle.catalogue.specs.Runs.{reckon}
 use Rattle.runs.specs.Runs.{alterations, tabled, tables, lengths}
 use Rattle.runs.proofs.Stepping.{same_lengths, reckon_more, tables_more}

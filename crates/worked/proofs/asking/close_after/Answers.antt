@@ -22,6 +22,6 @@ returns g c =
       answers = told_after o now m ran.reckoned r (length c.run.new.table) (length c.run.new.changed) (length c.run.new.found)
           (length c.args.table.now) (length c.args.changed.now) (length c.args.found.now) (length c.args.second.now)
           c.close_both.new.first c.close_both.new.second kept.table kept.changed kept.found told.rounds told.elimination told.agree;
-      leaves = left_after o now m ran.reckoned (answer r.by_rounds) c.run.new.table (tables o first t steps c.args.table.now) c.close_both.new.first ran.leaves told.leaves-first;
+      leaves = left_after o now m ran.reckoned (answer r.by_rounds) c.run.new.table (tables o first t steps c.args.table.now) c.close_both.new.first ran.leaves told.leaves_first;
       leaves_second = left_after o now m ran.reckoned (answer r.by_elimination) c.args.second.now c.args.second.now c.close_both.new.second refl told.leaves_second;
     }

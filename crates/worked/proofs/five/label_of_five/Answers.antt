@@ -1,4 +1,4 @@
-use Rattle.std.proofs.Common.{◌≡◌, ap, ◌∙◌}
+use Rattle.std.proofs.Common.{ap, ◌∙◌}
 use Rattle.labels.specs.Kinds.{minutes_ops, minutes_named}
 use Rattle.catalogue.specs.Makings.{first_meaning}
 use Rattle.worked.specs.Asked.{label_from}
