@@ -4,11 +4,13 @@
 usage: tools/snake_names.py [FOLDER]
 
 Run once, after the toolchain's own port script, at the top of a checkout. Words of a name are
-joined by _ and no longer by -, a name of the older library inside one becomes today's, and a fact
-that was spelled as a value is spelled as a type. The names are those that the antt files of
-specs/ and proofs/ declare: definitions, lemmas, record fields and local ones. Names that the
-check makes of the code (goals and steps, behind goal., given. or in a path of c) stay, and so do
-comments, strings and the names of src/.
+joined by _ and no longer by -, getD in a name becomes get_or, and figures, a fact that was spelled
+as a value, becomes Figures. The names are those that the antt files of specs/ and proofs/ declare
+with a type: definitions, lemmas, record fields, parameters and local ones. Names that the check
+makes of the code (goals and steps, behind goal., given. or in a path of c) stay, and so do
+comments, strings of src/ and the names of src/. A name of the library that is spelled as one of
+these is turned too: look at the imports afterwards. Two names with - that would become one stop
+the script; one that is in use already is only told.
 """
 import glob
 import os

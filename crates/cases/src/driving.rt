@@ -1,11 +1,11 @@
 // Drives a catalogue and the reference by the same calls, and compares them after each.
+use crate::checks::check_eq;
 use crate::reference::{Outcome, Record, Reference};
 use crate::rolls::Rolls;
 use catalogue::{Call, Catalogue, Refusal};
 use labels::Minutes;
 use paths::Arc;
 use std::alloc::AllocError;
-use std::process::Abort;
 use std::test::Fail;
 
 // What a run has come by.
@@ -26,7 +26,6 @@ pub struct Seen {
 
 // Makes `calls` calls, whose ends the reference gets exchanged where `turned`.
 pub fn drive<C: Catalogue<Label = Minutes>>(
-    rt: &impl Abort,
     c: &mut C,
     reference: &mut Reference,
     turned: bool,
@@ -46,15 +45,12 @@ pub fn drive<C: Catalogue<Label = Minutes>>(
         hidden: 0,
         in_force: 0,
     };
-    compare(rt, c, reference, turned)?;
+    compare(c, reference, turned)?;
     for _ in 0..calls {
         let call = rolls.call(reference.n());
         let outcome = call_catalogue(c, call);
-        assert_eq!(rt;
-            outcome,
-            call_reference(reference, exchanged(call, turned))?
-        );
-        compare(rt, c, reference, turned)?;
+        check_eq(outcome, call_reference(reference, exchanged(call, turned))?)?;
+        compare(c, reference, turned)?;
         note_outcome(&mut seen, outcome);
         note_holds(&mut seen, c);
     }
@@ -110,23 +106,22 @@ pub fn call_reference(
 
 // Every question, with the packages and places just past the last ones.
 fn compare<C: Catalogue<Label = Minutes>>(
-    rt: &impl Abort,
     c: &C,
     reference: &Reference,
     turned: bool,
 ) -> Result<(), Fail>
     requires { C.Catalogue.valid c.now }
 {
-    assert_eq!(rt; c.n(), reference.n());
-    assert_eq!(rt; c.stock_len(), reference.stock_len());
-    assert_eq!(rt; c.places_left(), reference.places_left());
-    assert_eq!(rt; c.sealed(), reference.sealed());
-    assert_eq!(rt; c.can_hold(), reference.can_hold());
+    check_eq(c.n(), reference.n())?;
+    check_eq(c.stock_len(), reference.stock_len())?;
+    check_eq(c.places_left(), reference.places_left())?;
+    check_eq(c.sealed(), reference.sealed())?;
+    check_eq(c.can_hold(), reference.can_hold())?;
     for p in 0..reference.n().saturating_add(2) {
-        assert_eq!(rt; c.is_held(p), reference.is_held(p));
+        check_eq(c.is_held(p), reference.is_held(p))?;
     }
     for k in 0..reference.stock_len().saturating_add(2) {
-        assert_eq!(rt; record(c.arc_at(k), turned), reference.arc_at(k));
+        check_eq(record(c.arc_at(k), turned), reference.arc_at(k))?;
     }
     Ok(())
 }

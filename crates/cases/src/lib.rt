@@ -2,6 +2,7 @@
 #![tactic(auto)]
 
 mod calls;
+mod checks;
 #[cfg(test)]
 mod driving;
 mod frozen;
@@ -21,6 +22,7 @@ mod width;
 mod widths;
 
 pub use calls::number;
+pub use checks::{check, check_eq};
 pub use frozen::Frozen;
 pub use reference::{Outcome, Record, Reference};
 pub use rolls::Rolls;

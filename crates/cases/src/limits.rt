@@ -1,9 +1,9 @@
 // Sizes and holds at their limits.
 use crate::calls::number;
+use crate::checks::{check, check_eq};
 use catalogue::{Blank, Catalogue, Holding, Layer, Ledger, Make};
 use labels::{Constant, Label, Minutes};
 use paths::Arc;
-use std::process::Abort;
 use std::test::Fail;
 
 fn no_arc() -> Arc<Minutes> {
@@ -61,32 +61,33 @@ fn most_places(rt: HostRuntime) -> Result<(), Fail> {
 }
 
 // Holds packages 0 to `count` - 1, and is refused the next.
-fn hold_all<C: Catalogue>(rt: &impl Abort, c: &mut C, count: u32) -> Result<(), Fail>
+fn hold_all<C: Catalogue>(c: &mut C, count: u32) -> Result<(), Fail>
     requires { C.Catalogue.valid c.old }
     ensures { C.Catalogue.valid c.new }
 {
     for p in 0..count {
-        assert!(rt; c.can_hold());
-        assert_eq!(rt; number(c.hold(p)), 0);
-        assert!(rt; c.is_held(p));
+        check(c.can_hold())?;
+        check_eq(number(c.hold(p)), 0)?;
+        check(c.is_held(p))?;
     }
-    assert!(rt; !c.can_hold());
-    assert_eq!(rt; number(c.hold(count)), 11);
-    assert!(rt; !c.is_held(count));
+    check(!c.can_hold())?;
+    check_eq(number(c.hold(count)), 11)?;
+    check(!c.is_held(count))?;
     Ok(())
 }
 
 // A hold that is lifted leaves its place to another.
-fn hold_another<C: Catalogue>(rt: &impl Abort, c: &mut C, lifted: u32, held: u32)
+fn hold_another<C: Catalogue>(c: &mut C, lifted: u32, held: u32) -> Result<(), Fail>
     requires { C.Catalogue.valid c.old }
     ensures { C.Catalogue.valid c.new }
 {
-    assert_eq!(rt; number(c.lift(lifted)), 0);
-    assert!(rt; !c.is_held(lifted));
-    assert!(rt; c.can_hold());
-    assert_eq!(rt; number(c.hold(held)), 0);
-    assert!(rt; c.is_held(held));
-    assert_eq!(rt; number(c.hold(lifted)), 11);
+    check_eq(number(c.lift(lifted)), 0)?;
+    check(!c.is_held(lifted))?;
+    check(c.can_hold())?;
+    check_eq(number(c.hold(held)), 0)?;
+    check(c.is_held(held))?;
+    check_eq(number(c.hold(lifted)), 11)?;
+    Ok(())
 }
 
 #[test]
@@ -97,8 +98,8 @@ fn most_holds(rt: HostRuntime) -> Result<(), Fail> {
         arcs: &mut arcs,
     })?;
     let mut top = Holding::over(ledger);
-    hold_all(&rt, &mut top, 32)?;
-    hold_another(&rt, &mut top, 5, 40);
+    hold_all(&mut top, 32)?;
+    hold_another(&mut top, 5, 40)?;
     Ok(())
 }
 
@@ -110,8 +111,8 @@ fn most_holds_of_two_layers(rt: HostRuntime) -> Result<(), Fail> {
         arcs: &mut arcs,
     })?;
     let mut top = Holding::over(Holding::over(ledger));
-    hold_all(&rt, &mut top, 64)?;
-    hold_another(&rt, &mut top, 5, 70);
-    hold_another(&rt, &mut top, 50, 71);
+    hold_all(&mut top, 64)?;
+    hold_another(&mut top, 5, 70)?;
+    hold_another(&mut top, 50, 71)?;
     Ok(())
 }

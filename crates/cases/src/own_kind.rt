@@ -1,12 +1,12 @@
 // The tests' own kind and layer, through code that knows neither.
 use crate::calls::number;
+use crate::checks::{check, check_eq};
 use crate::frozen::Frozen;
 use crate::width::Width;
 use catalogue::{Blank, Call, Catalogue, Holding, Layer, Ledger, Make, run};
 use exercise::{Answers, Arguments, exercise};
 use labels::{Constant, Label};
 use paths::Arc;
-use std::process::Abort;
 use std::test::Fail;
 
 #[test]
@@ -56,29 +56,30 @@ fn first_calls() -> [Call<Width>; 5] {
 }
 
 // What the stack of the calls above answers to every question.
-fn check_questions(rt: &impl Abort, answers: Answers<Width>, sealed: bool) -> Result<(), Fail> {
-    assert_eq!(rt; answers.replies.n, 3);
-    assert_eq!(rt; answers.replies.stock_len, 2);
-    assert_eq!(rt; answers.replies.places_left, 2);
-    assert_eq!(rt; answers.replies.sealed, sealed);
-    assert!(rt; !answers.replies.is_held);
-    assert!(rt; answers.replies.can_hold);
+fn check_questions(answers: Answers<Width>, sealed: bool) -> Result<(), Fail> {
+    check_eq(answers.replies.n, 3)?;
+    check_eq(answers.replies.stock_len, 2)?;
+    check_eq(answers.replies.places_left, 2)?;
+    check_eq(answers.replies.sealed, sealed)?;
+    check(!answers.replies.is_held)?;
+    check(answers.replies.can_hold)?;
     match answers.replies.arc {
         Some(arc) => {
-            assert_eq!(rt; arc.from, 0);
-            assert_eq!(rt; arc.to, 1);
-            assert_eq!(rt; arc.label, Width { value: 7 });
+            check_eq(arc.from, 0)?;
+            check_eq(arc.to, 1)?;
+            check_eq(arc.label, Width { value: 7 })?;
             Ok(())
         }
         None => Err(Fail::new("no arc")),
     }
 }
 
-fn check_calls(rt: &impl Abort, answers: Answers<Width>, alters: u32) {
-    assert_eq!(rt; number(answers.outcomes.admit), alters);
-    assert_eq!(rt; number(answers.outcomes.hold), 0);
-    assert_eq!(rt; number(answers.outcomes.lift), 0);
-    assert_eq!(rt; number(answers.outcomes.withdraw), alters);
+fn check_calls(answers: Answers<Width>, alters: u32) -> Result<(), Fail> {
+    check_eq(number(answers.outcomes.admit), alters)?;
+    check_eq(number(answers.outcomes.hold), 0)?;
+    check_eq(number(answers.outcomes.lift), 0)?;
+    check_eq(number(answers.outcomes.withdraw), alters)?;
+    Ok(())
 }
 
 #[test]
@@ -96,8 +97,8 @@ fn width_exercised(rt: HostRuntime) -> Result<(), Fail> {
     let mut top = Holding::over(ledger);
     run(&mut top, &first_calls());
     let answers = exercise(&mut top, arguments());
-    check_questions(&rt, answers, false)?;
-    check_calls(&rt, answers, 0);
+    check_questions(answers, false)?;
+    check_calls(answers, 0)?;
     assert!(rt; top.is_held(2));
     assert!(rt; top.arc_at(1).is_none());
     Ok(())
@@ -119,8 +120,8 @@ fn frozen_width_exercised(rt: HostRuntime) -> Result<(), Fail> {
     run(&mut holding, &first_calls());
     let mut top = Frozen::over(holding);
     let answers = exercise(&mut top, arguments());
-    check_questions(&rt, answers, true)?;
-    check_calls(&rt, answers, 5);
+    check_questions(answers, true)?;
+    check_calls(answers, 5)?;
     run(
         &mut top,
         &[Call::Admit(0, 1, Width { value: 7 }), Call::Lift(2)],

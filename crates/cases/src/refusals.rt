@@ -1,10 +1,10 @@
 // Calls for which several checks fail: the first gives the number.
 use crate::calls::number;
+use crate::checks::check_eq;
 use crate::frozen::Frozen;
 use catalogue::{Blank, Call, Catalogue, Holding, Layer, Ledger, Make, Sheet, make_call};
 use labels::{Constant, Label, Minutes};
 use paths::Arc;
-use std::process::Abort;
 use std::test::Fail;
 
 const NONE: u32 = 4294967295;
@@ -24,16 +24,12 @@ fn gives(call: Call<Minutes>, number: u32) -> Case {
     Case { call, number }
 }
 
-fn check_cases<C: Catalogue<Label = Minutes>>(
-    rt: &impl Abort,
-    c: &mut C,
-    cases: &[Case],
-) -> Result<(), Fail>
+fn check_cases<C: Catalogue<Label = Minutes>>(c: &mut C, cases: &[Case]) -> Result<(), Fail>
     requires { C.Catalogue.valid c.old }
     ensures { C.Catalogue.valid c.new }
 {
     for case in cases {
-        assert_eq!(rt; number(make_call(c, case.call)), case.number);
+        check_eq(number(make_call(c, case.call)), case.number)?;
     }
     Ok(())
 }
@@ -103,17 +99,17 @@ fn full_ledger(rt: HostRuntime) -> Result<(), Fail> {
         n: 3,
         arcs: &mut arcs,
     })?;
-    check_cases(&rt, &mut ledger, &[gives(admit(0, 1, 5), 0)])?;
-    check_cases(&rt, &mut ledger, &without_holds())?;
-    check_cases(&rt, &mut ledger, &full())
+    check_cases(&mut ledger, &[gives(admit(0, 1, 5), 0)])?;
+    check_cases(&mut ledger, &without_holds())?;
+    check_cases(&mut ledger, &full())
 }
 
 #[test]
 fn sealed_sheet(rt: HostRuntime) -> Result<(), Fail> {
     let bytes = b"\x02\0\0\0\x14\0\0\0\x08\0\0\0\x1c\0\0\0\0\0\0\0\x01\0\0\0\x05\0\0\0";
     let mut sheet: Sheet<Minutes> = Sheet::make(bytes)?;
-    check_cases(&rt, &mut sheet, &sealed())?;
-    check_cases(&rt, &mut sheet, &without_holds())
+    check_cases(&mut sheet, &sealed())?;
+    check_cases(&mut sheet, &without_holds())
 }
 
 #[test]
@@ -128,19 +124,19 @@ fn frozen_ledger(rt: HostRuntime) -> Result<(), Fail> {
         n: 3,
         arcs: &mut arcs,
     })?;
-    check_cases(&rt, &mut ledger, &[gives(admit(0, 1, 5), 0)])?;
+    check_cases(&mut ledger, &[gives(admit(0, 1, 5), 0)])?;
     let mut top = Frozen::over(ledger);
-    check_cases(&rt, &mut top, &sealed())?;
-    check_cases(&rt, &mut top, &without_holds())
+    check_cases(&mut top, &sealed())?;
+    check_cases(&mut top, &without_holds())
 }
 
 // Holds packages 0 to 31.
-fn hold_32<C: Catalogue<Label = Minutes>>(rt: &impl Abort, c: &mut C) -> Result<(), Fail>
+fn hold_32<C: Catalogue<Label = Minutes>>(c: &mut C) -> Result<(), Fail>
     requires { C.Catalogue.valid c.old }
     ensures { C.Catalogue.valid c.new }
 {
     for p in 0..32 {
-        assert_eq!(rt; number(c.hold(p)), 0);
+        check_eq(number(c.hold(p)), 0)?;
     }
     Ok(())
 }
@@ -158,7 +154,7 @@ fn holds_and_lifts(rt: HostRuntime) -> Result<(), Fail> {
         arcs: &mut arcs,
     })?;
     let mut top = Holding::over(ledger);
-    check_cases(&rt, &mut top, &[gives(Call::Lift(0), 12)])?;
-    hold_32(&rt, &mut top)?;
-    check_cases(&rt, &mut top, &with_32_held())
+    check_cases(&mut top, &[gives(Call::Lift(0), 12)])?;
+    hold_32(&mut top)?;
+    check_cases(&mut top, &with_32_held())
 }

@@ -1,12 +1,12 @@
 // Sheets as bytes: what is read, and what each wrong sheet is refused by.
 use crate::calls::number;
+use crate::checks::check_eq;
 use crate::driving::record;
 use crate::reference::Record;
 use crate::width::Width;
 use catalogue::{Catalogue, Make, Sheet};
 use labels::{Label, Licence, Minutes, Reach};
 use std::alloc::{AllocError, Global};
-use std::process::Abort;
 use std::test::Fail;
 
 #[test]
@@ -63,9 +63,9 @@ fn cut_gives(words: &[u32], cut: usize, number: u32) -> Case<'_> {
     Case { words, cut, number }
 }
 
-fn check_cases(rt: &impl Abort, heap: Global, cases: &[Case]) -> Result<(), Fail> {
+fn check_cases(heap: Global, cases: &[Case]) -> Result<(), Fail> {
     for case in cases {
-        assert_eq!(rt; read::<Minutes>(heap, case.words, case.cut)?, case.number);
+        check_eq(read::<Minutes>(heap, case.words, case.cut)?, case.number)?;
     }
     Ok(())
 }
@@ -85,7 +85,7 @@ fn sizes_and_counts(rt: HostRuntime) -> Result<(), Fail> {
         cut_gives(&[1, 99, 0], 1, 2),
         gives(&[2, 99, 8, 28], 2),
     ];
-    check_cases(&rt, rt.alloc(), &cases)
+    check_cases(rt.alloc(), &cases)
 }
 
 #[test]
@@ -104,7 +104,7 @@ fn pairs(rt: HostRuntime) -> Result<(), Fail> {
         // pairs before what is after the last run, and before arcs
         cut_gives(&[2, 20, 4, 24, 0, 9, 5, 0], 3, 3),
     ];
-    check_cases(&rt, rt.alloc(), &cases)
+    check_cases(rt.alloc(), &cases)
 }
 
 #[test]
@@ -124,7 +124,7 @@ fn arcs(rt: HostRuntime) -> Result<(), Fail> {
         gives(&[2, 20, 0, 20, 8, 1, 5], 7),
         gives(&[2, 20, 0, 20, 8, 0, 5], 0),
     ];
-    check_cases(&rt, rt.alloc(), &cases)
+    check_cases(rt.alloc(), &cases)
 }
 
 // The answer where the one arc has this word.
@@ -133,9 +133,9 @@ fn read_word<K: Label>(heap: Global, word: u32) -> Result<u32, AllocError> {
 }
 
 // Words, and the number of the answer to each.
-fn check_words<K: Label>(rt: &impl Abort, heap: Global, cases: &[(u32, u32)]) -> Result<(), Fail> {
+fn check_words<K: Label>(heap: Global, cases: &[(u32, u32)]) -> Result<(), Fail> {
     for case in cases {
-        assert_eq!(rt; read_word::<K>(heap, case.0)?, case.1);
+        check_eq(read_word::<K>(heap, case.0)?, case.1)?;
     }
     Ok(())
 }
@@ -143,10 +143,10 @@ fn check_words<K: Label>(rt: &impl Abort, heap: Global, cases: &[(u32, u32)]) ->
 #[test]
 fn words_of_each_kind(rt: HostRuntime) -> Result<(), Fail> {
     let heap = rt.alloc();
-    check_words::<Minutes>(&rt, heap, &[(0, 0), (4294967294, 0), (4294967295, 4)])?;
-    check_words::<Reach>(&rt, heap, &[(0, 4), (1, 0), (2, 4)])?;
-    check_words::<Licence>(&rt, heap, &[(0, 0), (4294967295, 4)])?;
-    check_words::<Width>(&rt, heap, &[(0, 4), (4294967295, 0)])
+    check_words::<Minutes>(heap, &[(0, 0), (4294967294, 0), (4294967295, 4)])?;
+    check_words::<Reach>(heap, &[(0, 4), (1, 0), (2, 4)])?;
+    check_words::<Licence>(heap, &[(0, 0), (4294967295, 4)])?;
+    check_words::<Width>(heap, &[(0, 4), (4294967295, 0)])
 }
 
 // The answer to the reading of a sheet of so many arcs, of which the last has the target `last`.

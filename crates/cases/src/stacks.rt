@@ -1,4 +1,5 @@
 // Stacks of catalogues against the reference, over long runs of calls.
+use crate::checks::check;
 use crate::driving::{Seen, call_reference, drive};
 use crate::frozen::Frozen;
 use crate::reference::Reference;
@@ -6,7 +7,6 @@ use catalogue::{Blank, Call, Catalogue, Holding, Layer, Ledger, Make, Turned, ru
 use labels::{Constant, Label, Minutes};
 use paths::Arc;
 use std::alloc::{AllocError, Global};
-use std::process::Abort;
 use std::test::Fail;
 
 const PLACES: usize = 8;
@@ -42,12 +42,13 @@ fn stocked(heap: Global, n: u32, most_held: usize) -> Result<Reference, AllocErr
 }
 
 // Nothing that a run should come by is missing.
-fn check_seen(rt: &impl Abort, seen: Seen) {
-    assert!(rt; seen.accepted > 0);
-    assert!(rt; seen.refused > 0);
-    assert!(rt; seen.held > 0);
-    assert!(rt; seen.hidden > 0);
-    assert!(rt; seen.in_force > 0);
+fn check_seen(seen: Seen) -> Result<(), Fail> {
+    check(seen.accepted > 0)?;
+    check(seen.refused > 0)?;
+    check(seen.held > 0)?;
+    check(seen.hidden > 0)?;
+    check(seen.in_force > 0)?;
+    Ok(())
 }
 
 #[test]
@@ -59,7 +60,7 @@ fn ledger(rt: HostRuntime) -> Result<(), Fail> {
     })?;
     run(&mut ledger, &first_calls());
     let mut reference = stocked(rt.alloc(), 6, 0)?;
-    let seen = drive(&rt, &mut ledger, &mut reference, false, CALLS)?;
+    let seen = drive(&mut ledger, &mut reference, false, CALLS)?;
     assert!(rt; seen.accepted > 0);
     assert!(rt; seen.refused > 0);
     assert!(rt; seen.several > 0);
@@ -78,16 +79,10 @@ fn holding_ledger(rt: HostRuntime) -> Result<(), Fail> {
     })?;
     run(&mut ledger, &first_calls());
     let mut reference = stocked(rt.alloc(), 6, 32)?;
-    let seen = drive(
-        &rt,
-        &mut Holding::over(ledger),
-        &mut reference,
-        false,
-        CALLS,
-    )?;
+    let seen = drive(&mut Holding::over(ledger), &mut reference, false, CALLS)?;
     assert!(rt; seen.several > 0);
     assert!(rt; seen.full > 0);
-    check_seen(&rt, seen);
+    check_seen(seen)?;
     Ok(())
 }
 
@@ -101,10 +96,10 @@ fn turned_holding_ledger(rt: HostRuntime) -> Result<(), Fail> {
     run(&mut ledger, &first_calls());
     let mut reference = stocked(rt.alloc(), 6, 32)?;
     let mut top = Turned::over(Holding::over(ledger));
-    let seen = drive(&rt, &mut top, &mut reference, true, CALLS)?;
+    let seen = drive(&mut top, &mut reference, true, CALLS)?;
     assert!(rt; seen.several > 0);
     assert!(rt; seen.full > 0);
-    check_seen(&rt, seen);
+    check_seen(seen)?;
     Ok(())
 }
 
@@ -118,10 +113,10 @@ fn holding_turned_holding_ledger(rt: HostRuntime) -> Result<(), Fail> {
     run(&mut ledger, &first_calls());
     let mut reference = stocked(rt.alloc(), 6, 64)?;
     let mut top = Holding::over(Turned::over(Holding::over(ledger)));
-    let seen = drive(&rt, &mut top, &mut reference, true, CALLS)?;
+    let seen = drive(&mut top, &mut reference, true, CALLS)?;
     assert!(rt; seen.several > 0);
     assert!(rt; seen.full > 0);
-    check_seen(&rt, seen);
+    check_seen(seen)?;
     Ok(())
 }
 
@@ -136,9 +131,9 @@ fn two_lists_run_out(rt: HostRuntime) -> Result<(), Fail> {
     run(&mut ledger, &first_calls());
     let mut reference = stocked(rt.alloc(), 110, 64)?;
     let mut top = Holding::over(Turned::over(Holding::over(ledger)));
-    let seen = drive(&rt, &mut top, &mut reference, true, CALLS)?;
+    let seen = drive(&mut top, &mut reference, true, CALLS)?;
     assert!(rt; seen.no_holds > 0);
-    check_seen(&rt, seen);
+    check_seen(seen)?;
     Ok(())
 }
 
@@ -153,6 +148,6 @@ fn frozen_holding_ledger(rt: HostRuntime) -> Result<(), Fail> {
     let mut reference = stocked(rt.alloc(), 6, 32)?;
     reference.seal();
     let mut top = Frozen::over(Holding::over(ledger));
-    check_seen(&rt, drive(&rt, &mut top, &mut reference, false, CALLS)?);
+    check_seen(drive(&mut top, &mut reference, false, CALLS)?)?;
     Ok(())
 }

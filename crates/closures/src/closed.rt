@@ -1,10 +1,10 @@
 // A catalogue's closings beside the labels of its chains.
 use crate::chains::Chains;
+use cases::{check, check_eq};
 use catalogue::Catalogue;
 use closing::{by_elimination, by_rounds, label_of, row};
 use labels::{Constant, Label};
 use std::alloc::{AllocError, Global};
-use std::process::Abort;
 use std::test::Fail;
 
 // More cells than the closings of 5 packages need.
@@ -28,7 +28,7 @@ pub fn unwritten<K: Label>(heap: Global) -> Result<Vec<K>, AllocError> {
 }
 
 // The label of every pair in its cell, and the cells behind them unwritten.
-pub fn check_table<K: Label>(rt: &impl Abort, table: &[K], chains: &Chains) {
+pub fn check_table<K: Label>(table: &[K], chains: &Chains) -> Result<(), Fail> {
     let n = chains.n();
     let mut i = 0;
     let mut j = 0;
@@ -38,55 +38,46 @@ pub fn check_table<K: Label>(rt: &impl Abort, table: &[K], chains: &Chains) {
         } else {
             K::WHOLE.label()
         };
-        assert!(rt; cell.same(due));
+        check(cell.same(due))?;
         j = j.saturating_add(1);
         if j == n {
             i = i.saturating_add(1);
             j = 0;
         }
     }
-    assert!(rt; i >= n);
+    check(i >= n)?;
+    Ok(())
 }
 
 // The rows of a table, each as long as there are packages.
-fn check_rows<K: Label>(rt: &impl Abort, table: &[K], chains: &Chains) -> Result<(), Fail> {
+fn check_rows<K: Label>(table: &[K], chains: &Chains) -> Result<(), Fail> {
     let n = chains.n();
     for p in 0..n {
         let mut j = 0;
         for cell in row(table, n, p)? {
-            assert!(rt; cell.same(label(chains.label(p, j))));
+            check(cell.same(label(chains.label(p, j))))?;
             j = j.saturating_add(1);
         }
-        assert_eq!(rt; j, n);
+        check_eq(j, n)?;
     }
     Ok(())
 }
 
 // The label of each pair, one by one.
-fn check_labels<C: Catalogue>(
-    rt: &impl Abort,
-    c: &C,
-    table: &mut [C::Label],
-    chains: &Chains,
-) -> Result<(), Fail>
+fn check_labels<C: Catalogue>(c: &C, table: &mut [C::Label], chains: &Chains) -> Result<(), Fail>
     requires { C.Catalogue.valid c.now }
 {
     for i in 0..chains.n() {
         for j in 0..chains.n() {
             let found = label_of(c, table, i, j)?;
-            assert!(rt; found.same(label(chains.label(i, j))));
+            check(found.same(label(chains.label(i, j))))?;
         }
     }
     Ok(())
 }
 
 // Closes in both ways.
-pub fn check_closed<C: Catalogue>(
-    rt: &impl Abort,
-    heap: Global,
-    c: &C,
-    chains: &Chains,
-) -> Result<(), Fail>
+pub fn check_closed<C: Catalogue>(heap: Global, c: &C, chains: &Chains) -> Result<(), Fail>
     requires { C.Catalogue.valid c.now }
 {
     let mut table = unwritten(heap)?;
@@ -98,11 +89,11 @@ pub fn check_closed<C: Catalogue>(
         changed.as_mut_slice(),
         found.as_mut_slice(),
     )?;
-    assert_eq!(rt; rounds, chains.rounds());
-    check_table(rt, table.as_slice(), chains);
-    check_rows(rt, table.as_slice(), chains)?;
+    check_eq(rounds, chains.rounds())?;
+    check_table(table.as_slice(), chains)?;
+    check_rows(table.as_slice(), chains)?;
     let mut table = unwritten(heap)?;
     by_elimination(c, table.as_mut_slice())?;
-    check_table(rt, table.as_slice(), chains);
-    check_labels(rt, c, table.as_mut_slice(), chains)
+    check_table(table.as_slice(), chains)?;
+    check_labels(c, table.as_mut_slice(), chains)
 }

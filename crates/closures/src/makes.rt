@@ -3,11 +3,10 @@ use crate::chains::Chains;
 use crate::closed::check_closed;
 use crate::kinds::Kind;
 use crate::scenes::{PLACES, blank, labelled, rolled, tell_all};
-use cases::{Frozen, Reference, Rolls, Width};
+use cases::{Frozen, Reference, Rolls, Width, check};
 use catalogue::{Blank, Call, Catalogue, Holding, Layer, Ledger, Make, Sheet, Turned, run};
 use labels::{Label, Licence, Minutes, Reach};
 use std::alloc::{AllocError, Global};
-use std::process::Abort;
 use std::test::Fail;
 
 const SCENES: u32 = 60;
@@ -48,7 +47,6 @@ fn told(scene: &Scene, turned: bool, most_held: usize) -> Result<Reference, Allo
 }
 
 fn compare<C: Catalogue>(
-    rt: &impl Abort,
     c: &C,
     scene: &Scene,
     reference: &Reference,
@@ -57,12 +55,12 @@ fn compare<C: Catalogue>(
     requires { C.Catalogue.valid c.now }
 {
     let chains = Chains::new(scene.heap, scene.kind, reference)?;
-    check_closed(rt, scene.heap, c, &chains)?;
+    check_closed(scene.heap, c, &chains)?;
     note(seen, reference, &chains);
     Ok(())
 }
 
-fn check_ledger<K: Label>(rt: &impl Abort, scene: &Scene, seen: &mut Seen) -> Result<(), Fail> {
+fn check_ledger<K: Label>(scene: &Scene, seen: &mut Seen) -> Result<(), Fail> {
     let mut arcs = blank::<K>(scene.heap)?;
     let mut ledger = Ledger::make(Blank {
         n: scene.n,
@@ -72,18 +70,18 @@ fn check_ledger<K: Label>(rt: &impl Abort, scene: &Scene, seen: &mut Seen) -> Re
     run(&mut ledger, calls.as_slice());
     let calls = labelled(scene.heap, scene.then.as_slice())?;
     run(&mut ledger, calls.as_slice());
-    compare(rt, &ledger, scene, &told(scene, false, 0)?, seen)
+    compare(&ledger, scene, &told(scene, false, 0)?, seen)
 }
 
 // The sheet of the arcs that a ledger would have.
-fn check_sheet<K: Label>(rt: &impl Abort, scene: &Scene, seen: &mut Seen) -> Result<(), Fail> {
+fn check_sheet<K: Label>(scene: &Scene, seen: &mut Seen) -> Result<(), Fail> {
     let reference = told(scene, false, 0)?;
     let bytes = sheet_bytes(scene.heap, &reference)?;
     let sheet = Sheet::<K>::make(bytes.as_slice())?;
-    compare(rt, &sheet, scene, &reference, seen)
+    compare(&sheet, scene, &reference, seen)
 }
 
-fn check_turned<K: Label>(rt: &impl Abort, scene: &Scene, seen: &mut Seen) -> Result<(), Fail> {
+fn check_turned<K: Label>(scene: &Scene, seen: &mut Seen) -> Result<(), Fail> {
     let mut arcs = blank::<K>(scene.heap)?;
     let mut ledger = Ledger::make(Blank {
         n: scene.n,
@@ -94,10 +92,10 @@ fn check_turned<K: Label>(rt: &impl Abort, scene: &Scene, seen: &mut Seen) -> Re
     let mut top = Turned::over(ledger);
     let calls = labelled(scene.heap, scene.then.as_slice())?;
     run(&mut top, calls.as_slice());
-    compare(rt, &top, scene, &told(scene, true, 0)?, seen)
+    compare(&top, scene, &told(scene, true, 0)?, seen)
 }
 
-fn check_holding<K: Label>(rt: &impl Abort, scene: &Scene, seen: &mut Seen) -> Result<(), Fail> {
+fn check_holding<K: Label>(scene: &Scene, seen: &mut Seen) -> Result<(), Fail> {
     let mut arcs = blank::<K>(scene.heap)?;
     let mut ledger = Ledger::make(Blank {
         n: scene.n,
@@ -108,11 +106,11 @@ fn check_holding<K: Label>(rt: &impl Abort, scene: &Scene, seen: &mut Seen) -> R
     let mut top = Holding::over(ledger);
     let calls = labelled(scene.heap, scene.then.as_slice())?;
     run(&mut top, calls.as_slice());
-    compare(rt, &top, scene, &told(scene, false, 32)?, seen)
+    compare(&top, scene, &told(scene, false, 32)?, seen)
 }
 
 // The calls after the layers are made once below the layer that seals, and once above it.
-fn check_stack<K: Label>(rt: &impl Abort, scene: &Scene, seen: &mut Seen) -> Result<(), Fail> {
+fn check_stack<K: Label>(scene: &Scene, seen: &mut Seen) -> Result<(), Fail> {
     let mut arcs = blank::<K>(scene.heap)?;
     let mut ledger = Ledger::make(Blank {
         n: scene.n,
@@ -128,7 +126,7 @@ fn check_stack<K: Label>(rt: &impl Abort, scene: &Scene, seen: &mut Seen) -> Res
     let mut reference = told(scene, true, 64)?;
     reference.seal();
     tell_all(&mut reference, scene.then.as_slice(), false)?;
-    compare(rt, &top, scene, &reference, seen)
+    compare(&top, scene, &reference, seen)
 }
 
 // Writes the reference's arcs as a sheet: n, each package's offset and length, and the runs.
@@ -204,7 +202,7 @@ fn parallel(reference: &Reference) -> bool {
     false
 }
 
-fn check_makes<K: Label>(rt: &impl Abort, heap: Global, kind: Kind) -> Result<Seen, Fail> {
+fn check_makes<K: Label>(heap: Global, kind: Kind) -> Result<Seen, Fail> {
     let mut rolls = Rolls::new(20);
     let mut seen = Seen {
         catalogues: 0,
@@ -223,21 +221,21 @@ fn check_makes<K: Label>(rt: &impl Abort, heap: Global, kind: Kind) -> Result<Se
             first: rolled(heap, &mut rolls, kind, n, 4, false)?,
             then: rolled(heap, &mut rolls, kind, n, 6, true)?,
         };
-        check_ledger::<K>(rt, &scene, &mut seen)?;
-        check_sheet::<K>(rt, &scene, &mut seen)?;
-        check_turned::<K>(rt, &scene, &mut seen)?;
-        check_holding::<K>(rt, &scene, &mut seen)?;
-        check_stack::<K>(rt, &scene, &mut seen)?;
+        check_ledger::<K>(&scene, &mut seen)?;
+        check_sheet::<K>(&scene, &mut seen)?;
+        check_turned::<K>(&scene, &mut seen)?;
+        check_holding::<K>(&scene, &mut seen)?;
+        check_stack::<K>(&scene, &mut seen)?;
     }
-    assert!(rt; seen.loops > 0);
-    assert!(rt; seen.parallel > 0);
-    assert!(rt; seen.hidden > 0);
+    check(seen.loops > 0)?;
+    check(seen.parallel > 0)?;
+    check(seen.hidden > 0)?;
     Ok(seen)
 }
 
 #[test]
 fn reach(rt: HostRuntime) -> Result<(), Fail> {
-    let seen = check_makes::<Reach>(&rt, rt.alloc(), Kind::Reach)?;
+    let seen = check_makes::<Reach>(rt.alloc(), Kind::Reach)?;
     assert_eq!(rt; seen.lost, 0);
     assert_eq!(rt; seen.changed, 0);
     Ok(())
@@ -245,7 +243,7 @@ fn reach(rt: HostRuntime) -> Result<(), Fail> {
 
 #[test]
 fn minutes(rt: HostRuntime) -> Result<(), Fail> {
-    let seen = check_makes::<Minutes>(&rt, rt.alloc(), Kind::Minutes)?;
+    let seen = check_makes::<Minutes>(rt.alloc(), Kind::Minutes)?;
     assert!(rt; seen.lost > 0);
     assert!(rt; seen.changed > 0);
     Ok(())
@@ -253,14 +251,14 @@ fn minutes(rt: HostRuntime) -> Result<(), Fail> {
 
 #[test]
 fn licence(rt: HostRuntime) -> Result<(), Fail> {
-    let seen = check_makes::<Licence>(&rt, rt.alloc(), Kind::Licence)?;
+    let seen = check_makes::<Licence>(rt.alloc(), Kind::Licence)?;
     assert!(rt; seen.changed > 0);
     Ok(())
 }
 
 #[test]
 fn width(rt: HostRuntime) -> Result<(), Fail> {
-    let seen = check_makes::<Width>(&rt, rt.alloc(), Kind::Width)?;
+    let seen = check_makes::<Width>(rt.alloc(), Kind::Width)?;
     assert!(rt; seen.changed > 0);
     Ok(())
 }

@@ -1,11 +1,10 @@
 // Buffers that are too short, and the refusals of a row.
 use crate::scenes::blank;
-use cases::number;
+use cases::{check_eq, number};
 use catalogue::{Blank, Catalogue, Ledger, Make};
 use closing::{by_elimination, by_rounds, label_of, row};
 use labels::Minutes;
 use std::alloc::{AllocError, Global};
-use std::process::Abort;
 use std::test::Fail;
 
 // Cells that all differ.
@@ -17,18 +16,18 @@ fn numbered(heap: Global, cells: u32) -> Result<Vec<Minutes>, AllocError> {
     Ok(table)
 }
 
-fn check_numbered(rt: &impl Abort, table: &[Minutes], cells: u32) {
+fn check_numbered(table: &[Minutes], cells: u32) -> Result<(), Fail> {
     let mut value = 0;
     for cell in table {
-        assert_eq!(rt; cell.value, value);
+        check_eq(cell.value, value)?;
         value = value.saturating_add(1);
     }
-    assert_eq!(rt; value, cells);
+    check_eq(value, cells)?;
+    Ok(())
 }
 
 // Closes into tables of so many cells, too few in one of them.
 fn check_short<C: Catalogue<Label = Minutes>>(
-    rt: &impl Abort,
     c: &C,
     heap: Global,
     sizes: (u32, u32, u32),
@@ -44,10 +43,10 @@ fn check_short<C: Catalogue<Label = Minutes>>(
         changed.as_mut_slice(),
         found.as_mut_slice(),
     );
-    assert_eq!(rt; number(answer), 13);
-    check_numbered(rt, table.as_slice(), sizes.0);
-    check_numbered(rt, changed.as_slice(), sizes.1);
-    check_numbered(rt, found.as_slice(), sizes.2);
+    check_eq(number(answer), 13)?;
+    check_numbered(table.as_slice(), sizes.0)?;
+    check_numbered(changed.as_slice(), sizes.1)?;
+    check_numbered(found.as_slice(), sizes.2)?;
     Ok(())
 }
 
@@ -61,37 +60,38 @@ fn short_tables(rt: HostRuntime) -> Result<(), Fail> {
     })?;
     ledger.admit(0, 1, Minutes { value: 4 })?;
     ledger.admit(1, 2, Minutes { value: 3 })?;
-    check_short(&rt, &ledger, heap, (8, 9, 9))?;
-    check_short(&rt, &ledger, heap, (9, 8, 9))?;
-    check_short(&rt, &ledger, heap, (9, 9, 8))?;
-    check_short(&rt, &ledger, heap, (0, 30, 30))?;
+    check_short(&ledger, heap, (8, 9, 9))?;
+    check_short(&ledger, heap, (9, 8, 9))?;
+    check_short(&ledger, heap, (9, 9, 8))?;
+    check_short(&ledger, heap, (0, 30, 30))?;
     let mut table = numbered(heap, 8)?;
     assert_eq!(rt; number(by_elimination(&ledger, table.as_mut_slice())), 13);
-    check_numbered(&rt, table.as_slice(), 8);
+    check_numbered(table.as_slice(), 8)?;
     assert_eq!(rt; number(label_of(&ledger, table.as_mut_slice(), 0, 1)), 13);
-    check_numbered(&rt, table.as_slice(), 8);
+    check_numbered(table.as_slice(), 8)?;
     let mut table = numbered(heap, 9)?;
     assert_eq!(rt; number(label_of(&ledger, table.as_mut_slice(), 0, 3)), 6);
     assert_eq!(rt; number(label_of(&ledger, table.as_mut_slice(), 3, 0)), 6);
-    check_numbered(&rt, table.as_slice(), 9);
+    check_numbered(table.as_slice(), 9)?;
     Ok(())
 }
 
 // The refusals of a row, where 3 packages need one cell more than `short` has.
-fn check_rows<T>(rt: &impl Abort, short: &[T], table: &[T]) {
-    assert_eq!(rt; number(row(short, 0, 9)), 1);
-    assert_eq!(rt; number(row(short, 1025, 9)), 1);
-    assert_eq!(rt; number(row(table, 1024, 0)), 13);
-    assert_eq!(rt; number(row(short, 3, 9)), 13);
-    assert_eq!(rt; number(row(short, 3, 0)), 13);
-    assert_eq!(rt; number(row(table, 3, 3)), 6);
-    assert_eq!(rt; number(row(table, 3, 2)), 0);
+fn check_rows<T>(short: &[T], table: &[T]) -> Result<(), Fail> {
+    check_eq(number(row(short, 0, 9)), 1)?;
+    check_eq(number(row(short, 1025, 9)), 1)?;
+    check_eq(number(row(table, 1024, 0)), 13)?;
+    check_eq(number(row(short, 3, 9)), 13)?;
+    check_eq(number(row(short, 3, 0)), 13)?;
+    check_eq(number(row(table, 3, 3)), 6)?;
+    check_eq(number(row(table, 3, 2)), 0)?;
+    Ok(())
 }
 
 #[test]
 fn rows(rt: HostRuntime) -> Result<(), Fail> {
     let bytes = [0u8, 1, 2, 3, 4, 5, 6, 7, 8];
-    check_rows(&rt, &[0u8; 8], &bytes);
+    check_rows(&[0u8; 8], &bytes)?;
     let mut due = 3;
     for byte in row(&bytes, 3, 1)? {
         assert_eq!(rt; *byte, due);
@@ -101,6 +101,6 @@ fn rows(rt: HostRuntime) -> Result<(), Fail> {
     let heap = rt.alloc();
     let short = numbered(heap, 8)?;
     let table = numbered(heap, 9)?;
-    check_rows(&rt, short.as_slice(), table.as_slice());
+    check_rows(short.as_slice(), table.as_slice())?;
     Ok(())
 }

@@ -3,13 +3,12 @@ use crate::chains::Chains;
 use crate::closed::{label, unwritten};
 use crate::kinds::Kind;
 use crate::scenes::{PLACES, blank, labelled, tell_all};
-use cases::Reference;
+use cases::{Reference, check, check_eq};
 use catalogue::{Blank, Call, Holding, Layer, Ledger, Make, run};
 use closing::row;
 use labels::{Constant, Label, Licence, Minutes, Reach};
 use runs::close_both;
 use std::alloc::Global;
-use std::process::Abort;
 use std::test::Fail;
 
 const NONE: u32 = 4294967295;
@@ -26,16 +25,11 @@ fn pair(from: u32, to: u32, word: u32) -> Labelled {
     Labelled { from, to, word }
 }
 
-fn check_pairs<K: Label>(
-    rt: &impl Abort,
-    table: &[K],
-    n: u32,
-    pairs: &[Labelled],
-) -> Result<(), Fail> {
+fn check_pairs<K: Label>(table: &[K], n: u32, pairs: &[Labelled]) -> Result<(), Fail> {
     for pair in pairs {
         match row(table, n, pair.from)?.get(pair.to as usize) {
-            Some(cell) => assert!(rt; cell.same(label(pair.word))),
-            None => assert!(rt; false),
+            Some(cell) => check(cell.same(label(pair.word)))?,
+            None => check(false)?,
         }
     }
     Ok(())
@@ -43,7 +37,6 @@ fn check_pairs<K: Label>(
 
 // What both closings and the chains give after these calls on Holding over a ledger.
 fn check_case<K: Label>(
-    rt: &impl Abort,
     heap: Global,
     kind: Kind,
     n: u32,
@@ -70,16 +63,16 @@ fn check_case<K: Label>(
         found.as_mut_slice(),
         second.as_mut_slice(),
     );
-    assert_eq!(rt; closings.by_rounds?, rounds);
+    check_eq(closings.by_rounds?, rounds)?;
     closings.by_elimination?;
-    check_pairs(rt, first.as_slice(), n, pairs)?;
-    check_pairs(rt, second.as_slice(), n, pairs)?;
+    check_pairs(first.as_slice(), n, pairs)?;
+    check_pairs(second.as_slice(), n, pairs)?;
     let mut reference = Reference::new(heap, n, kind.none(), PLACES, 32);
     tell_all(&mut reference, calls, false)?;
     let chains = Chains::new(heap, kind, &reference)?;
-    assert_eq!(rt; chains.rounds(), rounds);
+    check_eq(chains.rounds(), rounds)?;
     for pair in pairs {
-        assert_eq!(rt; chains.label(pair.from, pair.to), pair.word);
+        check_eq(chains.label(pair.from, pair.to), pair.word)?;
     }
     Ok(())
 }
@@ -109,10 +102,9 @@ fn five_packages(rt: HostRuntime) -> Result<(), Fail> {
         pair(0, 1, 4),
     ];
     let heap = rt.alloc();
-    check_case::<Minutes>(&rt, heap, Kind::Minutes, 5, &five(Call::Lift(0)), 4, &pairs)?;
+    check_case::<Minutes>(heap, Kind::Minutes, 5, &five(Call::Lift(0)), 4, &pairs)?;
     // a worse arc beside another changes nothing
     check_case::<Minutes>(
-        &rt,
         heap,
         Kind::Minutes,
         5,
@@ -121,7 +113,7 @@ fn five_packages(rt: HostRuntime) -> Result<(), Fail> {
         &pairs,
     )?;
     let held = [pair(4, 3, 15), pair(0, 1, NONE), pair(1, 2, NONE)];
-    check_case::<Minutes>(&rt, heap, Kind::Minutes, 5, &five(Call::Hold(1)), 3, &held)
+    check_case::<Minutes>(heap, Kind::Minutes, 5, &five(Call::Hold(1)), 3, &held)
 }
 
 #[test]
@@ -135,7 +127,7 @@ fn five_packages_reached(rt: HostRuntime) -> Result<(), Fail> {
         Call::Admit(4, 0, 1),
     ];
     let pairs = [pair(4, 3, 1), pair(2, 2, 1), pair(0, 0, 0), pair(3, 4, 0)];
-    check_case::<Reach>(&rt, rt.alloc(), Kind::Reach, 5, &calls, 3, &pairs)
+    check_case::<Reach>(rt.alloc(), Kind::Reach, 5, &calls, 3, &pairs)
 }
 
 #[test]
@@ -147,7 +139,7 @@ fn longest_times(rt: HostRuntime) -> Result<(), Fail> {
         Call::Admit(1, 3, 5),
     ];
     let pairs = [pair(0, 2, 4294967294), pair(0, 3, NONE), pair(1, 3, 5)];
-    check_case::<Minutes>(&rt, rt.alloc(), Kind::Minutes, 4, &calls, 2, &pairs)
+    check_case::<Minutes>(rt.alloc(), Kind::Minutes, 4, &calls, 2, &pairs)
 }
 
 #[test]
@@ -158,5 +150,5 @@ fn licences(rt: HostRuntime) -> Result<(), Fail> {
         Call::Admit(0, 2, 6),
     ];
     let pairs = [pair(0, 2, 6), pair(1, 0, NONE)];
-    check_case::<Licence>(&rt, rt.alloc(), Kind::Licence, 3, &calls, 1, &pairs)
+    check_case::<Licence>(rt.alloc(), Kind::Licence, 3, &calls, 1, &pairs)
 }
