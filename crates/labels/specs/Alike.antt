@@ -1,5 +1,6 @@
 -- Labels with equal numbers are equal, and the words that name labels.
 use Rattle.std.specs.Prelude.{◌≡◌, ℕ, ◌^◌, ◌<◌, min, Bool, true, false, cond, Some, None, nat_le, refl}
+use Rattle.std.specs.Bool.{then_some}
 use Rattle.std.proofs.Common.{ap, sym, subst, arith, ltb-true, leb-true, leb-false}
 use mathlib.Core.HLevel.{is_prop→PathP}
 use Rattle.std.proofs.Math.Bridge.{le_prop}
@@ -29,3 +30,17 @@ pub licence_read : (w : ℕ) (m : Licence) → true ≡ names_itself w → m.mas
 licence_read w m t e =
     subst (λ b. Some m ≡ cond b (Some (mask_of w)) None) t
     (ap Some (licence_same (omega (arith, ltb-true w 4294967295 (sym t)))))
+
+-- a label kept where its word names itself is the label that the word names
+named_then : {M : Type 0} (w : ℕ) (m named : M) → (true ≡ names_itself w → Some m ≡ cond (names_itself w) (Some named) None) → then_some (names_itself w) m ≡ cond (names_itself w) (Some named) None
+named_then {M} w m named read = go (names_itself w) refl
+  where
+    go : (b : Bool) → names_itself w ≡ b → then_some b m ≡ cond b (Some named) None
+    go true t = subst (λ b. Some m ≡ cond b (Some named) None) t (read (sym t))
+    go false t = refl
+
+pub minutes_then : (w : ℕ) (m : Minutes) → m.value ≡ w → then_some (names_itself w) m ≡ minutes_named w
+minutes_then w m e = named_then w m (minutes_of w) (λ t. minutes_read w m t e)
+
+pub licence_then : (w : ℕ) (m : Licence) → m.mask ≡ w → then_some (names_itself w) m ≡ licence_named w
+licence_then w m e = named_then w m (mask_of w) (λ t. licence_read w m t e)

@@ -2,31 +2,17 @@
 ghost use Rattle.std.specs.Prelude.{◌≡◌, ℕ, Option};
 ghost use Rattle.labels.specs.Algebra.{Ops, Laws, Absorbs, Exact, Unnamed};
 
-// A label of kind `K` that a type stands for: a constant that a contract can name.
-pub trait Constant<K>: Copy {
-    ghost value: { K };
-
-    fn label(self) -> K
-        ensures { result ≡ value };
-}
-
-// Stands for a kind's none: there is no chain, or none that counts.
-#[derive(Clone, Copy)]
-pub struct Absent;
-
-// Stands for a kind's whole: the label of the chain of no arcs.
-#[derive(Clone, Copy)]
-pub struct Entire;
-
 // A path algebra: `join` chooses between chains, `extend` follows one by another.
-pub trait Label: Copy {
-    type Absent: Constant<Self>;
+pub trait Label: Copy + PartialEq {
+    // There is no chain, or none that counts.
+    const NONE: Self;
 
-    type Entire: Constant<Self>;
+    // The label of the chain of no arcs.
+    const WHOLE: Self;
 
-    const NONE: Self::Absent;
+    ghost NONE: { Self };
 
-    const WHOLE: Self::Entire;
+    ghost WHOLE: { Self };
 
     ghost ops: { Ops Self };
 
@@ -39,12 +25,15 @@ pub trait Label: Copy {
     fn extend(self, next: Self) -> Self
         ensures { result ≡ ops.extend self next };
 
-    // Are the two labels equal?
-    fn same(self, other: Self) -> bool
-        ensures { result ≡ ops.same self other };
-
     fn from_word(word: u32) -> Option<Self>
         ensures { result ≡ named word };
+
+    // Are the two labels equal?
+    final fn same(self, other: Self) -> bool
+        ensures { result ≡ ops.same self other }
+    {
+        self == other
+    }
 
     ghost laws: { Laws ops };
 
@@ -53,9 +42,11 @@ pub trait Label: Copy {
 
     ghost exact: { Exact ops };
 
-    ghost none_named: { Self.Absent.Constant.value ≡ ops.none };
+    ghost compared: { (a b : Self) → Self.eq a b ≡ ops.same a b };
 
-    ghost whole_named: { Self.Entire.Constant.value ≡ ops.whole };
+    ghost none_named: { NONE ≡ ops.none };
+
+    ghost whole_named: { WHOLE ≡ ops.whole };
 
     ghost unnamed: { Unnamed ops named };
 }

@@ -9,4 +9,4 @@ mod reach;
 mod words;
 
 pub use kinds::{Licence, Minutes, Reach};
-pub use label::{Absent, Constant, Entire, Label};
+pub use label::Label;

@@ -1,38 +1,23 @@
 // Licence: a mask of obligations. Of two chains only what both bring counts; a chain brings what
 // each of its arcs brings.
-ghost use Rattle.std.specs.Prelude.{◌≡◌, bit_and, bit_or};
+ghost use Rattle.std.specs.Prelude.{◌≡◌};
 ghost use Rattle.labels.specs.Kinds.{licence_ops, licence_named, no_licence, free};
+ghost use Rattle.labels.specs.Alike.{licence_same, licence_read};
 ghost use Rattle.labels.specs.Lawful.{licence_laws, licence_absorbs, licence_exact, licence_unnamed};
 ghost use Rattle.std.proofs.Common.{rules, arith};
 
 use crate::kinds::Licence;
-use crate::label::{Absent, Constant, Entire, Label};
+use crate::label::Label;
 use crate::words::is_named;
 
-impl Constant<Licence> for Absent {
-    ghost value = { no_licence };
-
-    fn label(self) -> Licence {
-        Licence { mask: u32::MAX }
-    }
-}
-
-impl Constant<Licence> for Entire {
-    ghost value = { free };
-
-    fn label(self) -> Licence {
-        Licence { mask: 0 }
-    }
-}
-
 impl Label for Licence {
-    type Absent = Absent;
+    const NONE: Licence = Licence { mask: u32::MAX };
 
-    type Entire = Entire;
+    const WHOLE: Licence = Licence { mask: 0 };
 
-    const NONE: Absent = Absent;
+    ghost NONE = { no_licence };
 
-    const WHOLE: Entire = Entire;
+    ghost WHOLE = { free };
 
     ghost ops = { licence_ops };
 
@@ -44,45 +29,28 @@ impl Label for Licence {
 
     ghost exact = { licence_exact };
 
-    ghost none_named = { first_of (Prim.search rules, Prim.grind (arith, Self.row.coded.inj)) };
+    ghost compared = { Prim.search rules };
 
-    ghost whole_named = { first_of (Prim.search rules, Prim.grind (arith, Self.row.coded.inj)) };
+    ghost none_named = { Prim.search rules };
+
+    ghost whole_named = { Prim.search rules };
 
     ghost unnamed = { licence_unnamed };
 
     fn join(self, other: Licence) -> Licence {
         Licence {
-            mask: brought_by_both(self.mask, other.mask),
+            mask: self.mask & other.mask,
         }
     }
 
     fn extend(self, next: Licence) -> Licence {
         Licence {
-            mask: brought_by_either(self.mask, next.mask),
+            mask: self.mask | next.mask,
         }
     }
 
-    fn same(self, other: Licence) -> bool {
-        self.mask == other.mask
-    }
-
+    #[tactic(auto, using(crate::specs::Alike::licence_then))]
     fn from_word(word: u32) -> Option<Licence> {
-        if is_named(word) {
-            Some(Licence { mask: word })
-        } else {
-            None
-        }
+        is_named(word).then_some(Licence { mask: word })
     }
-}
-
-fn brought_by_both(a: u32, b: u32) -> u32
-    ensures { result ≡ bit_and a b }
-{
-    a & b
-}
-
-fn brought_by_either(a: u32, b: u32) -> u32
-    ensures { result ≡ bit_or a b }
-{
-    a | b
 }

@@ -1,36 +1,19 @@
 // Reach: no or yes.
-ghost use Rattle.std.specs.Prelude.{◌≡◌};
 ghost use Rattle.labels.specs.Kinds.{reach_ops, reach_named};
 ghost use Rattle.labels.specs.declared.kinds.Reach.TheVariants.{No, Yes};
 ghost use Rattle.std.proofs.Common.{rules};
 
 use crate::kinds::Reach;
-use crate::label::{Absent, Constant, Entire, Label};
-
-impl Constant<Reach> for Absent {
-    ghost value = { No };
-
-    fn label(self) -> Reach {
-        Reach::No
-    }
-}
-
-impl Constant<Reach> for Entire {
-    ghost value = { Yes };
-
-    fn label(self) -> Reach {
-        Reach::Yes
-    }
-}
+use crate::label::Label;
 
 impl Label for Reach {
-    type Absent = Absent;
+    const NONE: Reach = Reach::No;
 
-    type Entire = Entire;
+    const WHOLE: Reach = Reach::Yes;
 
-    const NONE: Absent = Absent;
+    ghost NONE = { No };
 
-    const WHOLE: Entire = Entire;
+    ghost WHOLE = { Yes };
 
     ghost ops = { reach_ops };
 
@@ -41,6 +24,8 @@ impl Label for Reach {
     ghost absorbs = { Prim.search rules };
 
     ghost exact = { Prim.search rules };
+
+    ghost compared = { Prim.search rules };
 
     ghost none_named = { Prim.search rules };
 
@@ -62,15 +47,7 @@ impl Label for Reach {
         }
     }
 
-    fn same(self, other: Reach) -> bool {
-        match (self, other) {
-            (Self::No, Self::No) => true,
-            (Self::Yes, Self::Yes) => true,
-            _ => false,
-        }
-    }
-
     fn from_word(word: u32) -> Option<Reach> {
-        if word == 1 { Some(Self::Yes) } else { None }
+        (word == 1).then_some(Self::Yes)
     }
 }
