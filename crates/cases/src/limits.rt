@@ -2,7 +2,7 @@
 use crate::calls::number;
 use crate::checks::{check, check_eq};
 use catalogue::{Blank, Catalogue, Holding, Layer, Ledger, Make};
-use labels::{Constant, Label, Minutes};
+use labels::{Label, Minutes};
 use paths::Arc;
 use std::test::Fail;
 
@@ -10,7 +10,7 @@ fn no_arc() -> Arc<Minutes> {
     Arc {
         from: 0,
         to: 0,
-        label: Minutes::NONE.label(),
+        label: Minutes::NONE,
     }
 }
 

@@ -5,7 +5,7 @@ use crate::frozen::Frozen;
 use crate::width::Width;
 use catalogue::{Blank, Call, Catalogue, Holding, Layer, Ledger, Make, run};
 use exercise::{Answers, Arguments, exercise};
-use labels::{Constant, Label};
+use labels::Label;
 use paths::Arc;
 use std::test::Fail;
 
@@ -23,8 +23,8 @@ fn width_operations(rt: HostRuntime) {
 
 #[test]
 fn width_words(rt: HostRuntime) {
-    let none: Width = Width::NONE.label();
-    let whole: Width = Width::WHOLE.label();
+    let none: Width = Width::NONE;
+    let whole: Width = Width::WHOLE;
     assert_eq!(rt; none.value, 0);
     assert_eq!(rt; whole.value, 4294967295);
     assert_eq!(rt; Width::from_word(0), None);
@@ -84,7 +84,7 @@ fn check_calls(answers: Answers<Width>, alters: u32) -> Result<(), Fail> {
 
 #[test]
 fn width_exercised(rt: HostRuntime) -> Result<(), Fail> {
-    let label: Width = Width::NONE.label();
+    let label: Width = Width::NONE;
     let mut arcs = [Arc {
         from: 0,
         to: 0,
@@ -106,7 +106,7 @@ fn width_exercised(rt: HostRuntime) -> Result<(), Fail> {
 
 #[test]
 fn frozen_width_exercised(rt: HostRuntime) -> Result<(), Fail> {
-    let label: Width = Width::NONE.label();
+    let label: Width = Width::NONE;
     let mut arcs = [Arc {
         from: 0,
         to: 0,

@@ -3,7 +3,7 @@ use crate::calls::number;
 use crate::checks::check_eq;
 use crate::frozen::Frozen;
 use catalogue::{Blank, Call, Catalogue, Holding, Layer, Ledger, Make, Sheet, make_call};
-use labels::{Constant, Label, Minutes};
+use labels::{Label, Minutes};
 use paths::Arc;
 use std::test::Fail;
 
@@ -89,7 +89,7 @@ fn with_32_held() -> [Case; 7] {
 
 #[test]
 fn full_ledger(rt: HostRuntime) -> Result<(), Fail> {
-    let label = Minutes::NONE.label();
+    let label = Minutes::NONE;
     let mut arcs = [Arc {
         from: 0,
         to: 0,
@@ -114,7 +114,7 @@ fn sealed_sheet(rt: HostRuntime) -> Result<(), Fail> {
 
 #[test]
 fn frozen_ledger(rt: HostRuntime) -> Result<(), Fail> {
-    let label = Minutes::NONE.label();
+    let label = Minutes::NONE;
     let mut arcs = [Arc {
         from: 0,
         to: 0,
@@ -143,7 +143,7 @@ fn hold_32<C: Catalogue<Label = Minutes>>(c: &mut C) -> Result<(), Fail>
 
 #[test]
 fn holds_and_lifts(rt: HostRuntime) -> Result<(), Fail> {
-    let label = Minutes::NONE.label();
+    let label = Minutes::NONE;
     let mut arcs = [Arc {
         from: 0,
         to: 0,

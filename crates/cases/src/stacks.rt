@@ -4,7 +4,7 @@ use crate::driving::{Seen, call_reference, drive};
 use crate::frozen::Frozen;
 use crate::reference::Reference;
 use catalogue::{Blank, Call, Catalogue, Holding, Layer, Ledger, Make, Turned, run};
-use labels::{Constant, Label, Minutes};
+use labels::{Label, Minutes};
 use paths::Arc;
 use std::alloc::{AllocError, Global};
 use std::test::Fail;
@@ -14,7 +14,7 @@ const PLACES: usize = 8;
 const CALLS: u32 = 1500;
 
 fn blank_arcs() -> [Arc<Minutes>; 8] {
-    let label = Minutes::NONE.label();
+    let label = Minutes::NONE;
     [Arc {
         from: 0,
         to: 0,

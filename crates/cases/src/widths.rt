@@ -1,36 +1,19 @@
 // Width as a label kind: of two chains the wider, and a chain is as wide as its narrowest arc.
-ghost use Rattle.std.specs.Prelude.{◌≡◌, min, max};
 ghost use Rattle.cases.specs.Widths.{width_ops, width_named, no_width, full_width};
 ghost use Rattle.cases.specs.Wide.{width_laws, width_absorbs, width_exact, width_unnamed};
-ghost use Rattle.std.proofs.Common.{rules, arith};
+ghost use Rattle.std.proofs.Common.{rules};
 
 use crate::width::Width;
-use labels::{Absent, Constant, Entire, Label};
-
-impl Constant<Width> for Absent {
-    ghost value = { no_width };
-
-    fn label(self) -> Width {
-        Width { value: 0 }
-    }
-}
-
-impl Constant<Width> for Entire {
-    ghost value = { full_width };
-
-    fn label(self) -> Width {
-        Width { value: u32::MAX }
-    }
-}
+use labels::Label;
 
 impl Label for Width {
-    type Absent = Absent;
+    const NONE: Width = Width { value: 0 };
 
-    type Entire = Entire;
+    const WHOLE: Width = Width { value: u32::MAX };
 
-    const NONE: Absent = Absent;
+    ghost NONE = { no_width };
 
-    const WHOLE: Entire = Entire;
+    ghost WHOLE = { full_width };
 
     ghost ops = { width_ops };
 
@@ -42,45 +25,27 @@ impl Label for Width {
 
     ghost exact = { width_exact };
 
-    ghost none_named = { first_of (Prim.search rules, Prim.grind (arith, Self.row.coded.inj)) };
+    ghost compared = { Prim.search rules };
 
-    ghost whole_named = { first_of (Prim.search rules, Prim.grind (arith, Self.row.coded.inj)) };
+    ghost none_named = { Prim.search rules };
+
+    ghost whole_named = { Prim.search rules };
 
     ghost unnamed = { width_unnamed };
 
     fn join(self, other: Width) -> Width {
         Width {
-            value: larger(self.value, other.value),
+            value: self.value.max(other.value),
         }
     }
 
     fn extend(self, next: Width) -> Width {
         Width {
-            value: smaller(self.value, next.value),
+            value: self.value.min(next.value),
         }
-    }
-
-    fn same(self, other: Width) -> bool {
-        self.value == other.value
     }
 
     fn from_word(word: u32) -> Option<Width> {
-        if word == 0 {
-            None
-        } else {
-            Some(Width { value: word })
-        }
+        (word != 0).then_some(Width { value: word })
     }
-}
-
-fn larger(a: u32, b: u32) -> u32
-    ensures { result ≡ max a b }
-{
-    if a < b { b } else { a }
-}
-
-fn smaller(a: u32, b: u32) -> u32
-    ensures { result ≡ min a b }
-{
-    if a < b { a } else { b }
 }

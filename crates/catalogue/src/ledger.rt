@@ -10,7 +10,7 @@ ghost use Rattle.catalogue.specs.Makings.{ledger_of, first_meaning};
 use crate::interface::{Catalogue, Make};
 use crate::limits::{MOST_ARCS, count_fits, outside};
 use crate::refusal::Refusal;
-use labels::{Constant, Label};
+use labels::Label;
 use paths::Arc;
 
 // The first `len` records are the stock; the others are free.
@@ -123,7 +123,7 @@ fn check_admit<K: Label>(n: u32, places: usize, from: u32, to: u32, label: K) ->
     if from == to {
         return Err(Refusal::EqualEnds);
     }
-    if label.same(K::NONE.label()) {
+    if label.same(K::NONE) {
         return Err(Refusal::LabelNone);
     }
     if places == 0 {

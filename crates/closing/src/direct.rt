@@ -6,14 +6,14 @@ ghost use Rattle.catalogue.specs.Meanings.{Sound, in_force};
 
 use crate::places::place;
 use catalogue::Catalogue;
-use labels::{Constant, Label};
+use labels::Label;
 
 // Writes none into every cell.
 pub(crate) fn clear<K: Label>(cells: &mut [K])
     ensures { (u : ℕ) → u < length cells.old → slice_index_or cells.new u K.ops.none ≡ K.ops.none }
 {
     for cell in cells.iter_mut() {
-        *cell = K::NONE.label();
+        *cell = K::NONE;
     }
 }
 

@@ -2,13 +2,13 @@
 ghost use Rattle.std.specs.Prelude.{◌≡◌, ◌<◌, not, length, slice_index_or, slice_set};
 ghost use Rattle.tables.specs.Tables.{relaxed};
 
-use labels::{Constant, Label};
+use labels::Label;
 
 // Is there a way at all?
 pub(crate) fn leads<K: Label>(label: K) -> bool
     ensures { result ≡ not (K.ops.same label K.ops.none) }
 {
-    !label.same(K::NONE.label())
+    !label.same(K::NONE)
 }
 
 // The cell joined with the way over `first` and then `next`.

@@ -14,7 +14,7 @@ use crate::direct::{clear, direct};
 use crate::places::{area, row_start};
 use crate::relax::relax_row;
 use catalogue::{Catalogue, Refusal};
-use labels::{Constant, Label};
+use labels::Label;
 use paths::Arc;
 
 // Closes by rounds: from L(1), each round extends by one arc what changed in the round before.
@@ -152,8 +152,8 @@ fn settle_at<K: Label>(cells: &mut [K], changed: &mut [K], found: &mut [K], u: u
     let new = cells[u].join(found[u]);
     let moved = !new.same(cells[u]);
     cells[u] = new;
-    changed[u] = if moved { new } else { K::NONE.label() };
-    found[u] = K::NONE.label();
+    changed[u] = if moved { new } else { K::NONE };
+    found[u] = K::NONE;
     moved
 }
 

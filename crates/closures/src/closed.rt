@@ -3,7 +3,7 @@ use crate::chains::Chains;
 use cases::{check, check_eq};
 use catalogue::Catalogue;
 use closing::{by_elimination, by_rounds, label_of, row};
-use labels::{Constant, Label};
+use labels::Label;
 use std::alloc::{AllocError, Global};
 use std::test::Fail;
 
@@ -14,7 +14,7 @@ const CELLS: u32 = 30;
 pub fn label<K: Label>(word: u32) -> K {
     match K::from_word(word) {
         Some(label) => label,
-        None => K::NONE.label(),
+        None => K::NONE,
     }
 }
 
@@ -22,7 +22,7 @@ pub fn label<K: Label>(word: u32) -> K {
 pub fn unwritten<K: Label>(heap: Global) -> Result<Vec<K>, AllocError> {
     let mut table = Vec::new(heap);
     for _ in 0..CELLS {
-        table.push(K::WHOLE.label())?;
+        table.push(K::WHOLE)?;
     }
     Ok(table)
 }
@@ -36,7 +36,7 @@ pub fn check_table<K: Label>(table: &[K], chains: &Chains) -> Result<(), Fail> {
         let due = if i < n {
             label(chains.label(i, j))
         } else {
-            K::WHOLE.label()
+            K::WHOLE
         };
         check(cell.same(due))?;
         j = j.saturating_add(1);

@@ -6,7 +6,7 @@ use crate::scenes::{PLACES, blank, labelled, tell_all};
 use cases::{Reference, check, check_eq};
 use catalogue::{Blank, Call, Holding, Layer, Ledger, Make, run};
 use closing::row;
-use labels::{Constant, Label, Licence, Minutes, Reach};
+use labels::{Label, Licence, Minutes, Reach};
 use runs::close_both;
 use std::alloc::Global;
 use std::test::Fail;

@@ -2,7 +2,7 @@ ghost use Rattle.std.specs.Prelude.{◌≡◌};
 ghost use Rattle.paths.specs.Arcs.{between, turn};
 
 // Package `from` depends on package `to`.
-#[derive(Clone, Copy)]
+#[derive(Clone, Copy, PartialEq, Eq, Debug)]
 pub struct Arc<K> {
     pub from: u32,
     pub to: u32,
@@ -24,7 +24,7 @@ impl<K: Copy> Arc<K> {
         Arc {
             from: self.to,
             to: self.from,
-            label: self.label,
+            ..self
         }
     }
 }

@@ -6,7 +6,7 @@ mod input;
 use catalogue::{Blank, Catalogue, Holding, Layer, Ledger, Make, Refusal};
 use console::session::{obey, open_with};
 use input::Input;
-use labels::{Constant, Label, Minutes};
+use labels::{Label, Minutes};
 use paths::Arc;
 use std::io;
 
@@ -14,7 +14,7 @@ use std::io;
 const PLACES: usize = 512;
 
 fn main(rt: HostRuntime) -> io::Result<()> {
-    let label = Minutes::NONE.label();
+    let label = Minutes::NONE;
     let mut arcs = [Arc {
         from: 0,
         to: 0,

@@ -10,7 +10,7 @@ ghost use Rattle.worked.specs.Worked.{five, six, WorkedCases};
 
 use crate::makes::label_in_ledger;
 use catalogue::{Call, Refusal};
-use labels::{Constant, Label, Minutes};
+use labels::{Label, Minutes};
 use paths::Arc;
 use runs::Step;
 
@@ -19,7 +19,7 @@ pub fn label_of_five(from: u32, to: u32) -> Result<Minutes, Refusal>
     ensures answers { answer result ≡ label_from minutes_ops (first_meaning minutes_ops minutes_named five) (map Alter (six minutes_of)) 25 from to }
     ensures cases { WorkedCases }
 {
-    let label = Minutes::NONE.label();
+    let label = Minutes::NONE;
     let mut arcs = [Arc {
         from: 0,
         to: 0,
