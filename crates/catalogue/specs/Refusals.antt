@@ -1,5 +1,5 @@
 -- The numbers of the refusals.
-use Rattle.std.specs.Prelude.{ℕ, Ok, Err, Result}
+use Rattle.std.specs.Prelude.{ℕ, List, ◌++◌, Ok, Err, Result, codes, decimal}
 pub use Rattle.catalogue.specs.declared.refusal.Refusal.{Refusal}
 use Rattle.catalogue.specs.declared.refusal.Refusal.TheVariants.{BadCount, BadSize, BadRun, LabelNone, Sealed, NoPackage, EqualEnds, Full, NoSuchArc, AlreadyHeld, NoHolds, NotHeld, ShortBuffer, NotCommand}
 
@@ -18,6 +18,10 @@ number NoHolds = 11
 number NotHeld = 12
 number ShortBuffer = 13
 number NotCommand = 16
+
+-- the line that answers a refused call
+abbrev pub refusal_text : Refusal → List ℕ
+refusal_text e = codes "refused " ++ decimal (number e)
 
 -- an answer, with a refusal by its number
 abbrev pub answer : {A : Type 0} → Result A Refusal → Result A ℕ

@@ -8,7 +8,7 @@ ghost use Rattle.catalogue.specs.Ledgers.{ledger, LedgerOk};
 ghost use Rattle.catalogue.specs.Makings.{ledger_of, first_meaning};
 
 use crate::interface::{Catalogue, Make};
-use crate::limits::{MOST_ARCS, count_fits, outside};
+use crate::limits::{MOST_ARCS, check_package, count_fits, outside};
 use crate::refusal::Refusal;
 use labels::Label;
 use paths::Arc;
@@ -99,16 +99,12 @@ impl<'a, K: Label> Catalogue for Ledger<'a, K> {
     }
 
     fn hold(&mut self, p: u32) -> Result<(), Refusal> {
-        if outside(self.n, p) {
-            return Err(Refusal::NoPackage);
-        }
+        check_package(self.n, p)?;
         Err(Refusal::NoHolds)
     }
 
     fn lift(&mut self, p: u32) -> Result<(), Refusal> {
-        if outside(self.n, p) {
-            return Err(Refusal::NoPackage);
-        }
+        check_package(self.n, p)?;
         Err(Refusal::NotHeld)
     }
 }

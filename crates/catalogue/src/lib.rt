@@ -7,7 +7,6 @@ mod holds;
 mod interface;
 mod ledger;
 mod limits;
-mod number;
 mod reading;
 mod refusal;
 mod runs;

@@ -180,8 +180,5 @@ pub(crate) fn arc_in<K: Label>(bytes: &[u8], from: u32, at: usize) -> Option<Arc
     ensures { result ≡ labelled from (word_at bytes.now at) (K.Label.named (word_at bytes.now (at + 4))) }
 {
     let to = word(bytes, at);
-    match K::from_word(word(bytes, at + 4)) {
-        Some(label) => Some(Arc { from, to, label }),
-        None => None,
-    }
+    K::from_word(word(bytes, at + 4)).map(|label| Arc { from, to, label })
 }

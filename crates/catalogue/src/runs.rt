@@ -27,10 +27,7 @@ pub fn make_call<C: Catalogue>(catalogue: &mut C, call: Call<C::Label>) -> Resul
 {
     match call {
         Call::Admit(from, to, label) => catalogue.admit(from, to, label),
-        Call::Withdraw(from, to) => match catalogue.withdraw(from, to) {
-            Ok(_) => Ok(()),
-            Err(refusal) => Err(refusal),
-        },
+        Call::Withdraw(from, to) => catalogue.withdraw(from, to).map(|_| ()),
         Call::Hold(p) => catalogue.hold(p),
         Call::Lift(p) => catalogue.lift(p),
     }

@@ -5,7 +5,7 @@ ghost use Rattle.catalogue.specs.SheetMeanings.{sheet, SheetOk, Exactly};
 ghost use Rattle.catalogue.specs.Makings.{sheet_of, first_meaning};
 
 use crate::interface::{Catalogue, Make};
-use crate::limits::outside;
+use crate::limits::check_package;
 use crate::reading::{arc_in, check_sheet, pair_at, place_of, source};
 use crate::refusal::Refusal;
 use labels::Label;
@@ -70,16 +70,12 @@ impl<'a, K: Label> Catalogue for Sheet<'a, K> {
     }
 
     fn hold(&mut self, p: u32) -> Result<(), Refusal> {
-        if outside(self.n, p) {
-            return Err(Refusal::NoPackage);
-        }
+        check_package(self.n, p)?;
         Err(Refusal::NoHolds)
     }
 
     fn lift(&mut self, p: u32) -> Result<(), Refusal> {
-        if outside(self.n, p) {
-            return Err(Refusal::NoPackage);
-        }
+        check_package(self.n, p)?;
         Err(Refusal::NotHeld)
     }
 }
@@ -92,14 +88,12 @@ impl<'a, K: Label> Make<&'a [u8]> for Sheet<'a, K> {
         ensures stands { Stands (λ s. SheetOk K.Label.named s.n s.arcs s.bytes.now) result }
         ensures exact { Exactly K.Label.named K.Label.ops.none bytes.now (meant (λ s. sheet K.Label.named K.Label.ops.none s.bytes.now) result) }
     {
-        match check_sheet::<K>(bytes) {
-            Ok(n) => Ok(Sheet {
-                n,
-                arcs: (bytes.len() - pair_at(n)) / 8,
-                bytes,
-                kind: PhantomData,
-            }),
-            Err(refusal) => Err(refusal),
-        }
+        let n = check_sheet::<K>(bytes)?;
+        Ok(Sheet {
+            n,
+            arcs: (bytes.len() - pair_at(n)) / 8,
+            bytes,
+            kind: PhantomData,
+        })
     }
 }

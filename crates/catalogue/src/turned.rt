@@ -79,10 +79,7 @@ impl<C: Catalogue> Catalogue for Turned<C> {
 fn turned_arc<K: Label>(arc: Option<Arc<K>>) -> Option<Arc<K>>
     ensures { result ≡ option_map turn arc }
 {
-    match arc {
-        Some(arc) => Some(arc.turned()),
-        None => None,
-    }
+    arc.map(|arc| arc.turned())
 }
 
 // Admits the arc below with its ends exchanged.

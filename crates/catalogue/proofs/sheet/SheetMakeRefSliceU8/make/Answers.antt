@@ -1,4 +1,5 @@
 use Rattle.std.proofs.Common.{◌≡◌, Ok, Err, sym, ap, arith}
+use Rattle.std.proofs.lemmas.Result.{err_from_is_err_and}
 use Rattle.sheets.specs.Sheets.{sheet_check}
 use Rattle.sheets.proofs.Passes.{all_met, entries_length}
 use Rattle.catalogue.specs.Refusals.{number}
@@ -7,13 +8,13 @@ use Rattle.catalogue.proofs.Numbers.{refused_by}
 use Rattle.catalogue.proofs.SheetArcs.{exactly}
 use Rattle.catalogue.proofs.sheet.SheetMakeRefSliceU8.make.Goals as goal
 
-pub returns-in-Ok : goal.returns-in-Ok
-returns-in-Ok g c =
+pub returns : goal.returns
+returns g c =
     let named = g.K.Label.named in
     let none = g.K.Label.ops.none in
     let bytes = c.args.bytes.now in
-    let met = sym c.in-Ok.ensures.checks in
-    let n = c.in-Ok.ensures.count in
+    let met = sym c.in_ok-n.ensures.checks in
+    let n = c.in_ok-n.ensures.count in
     let m = all_met named bytes met in
     let total = entries_length named bytes m.pairs in
     let told : Ok (sheet named none bytes) ≡ sheet_made named none bytes = ap (λ v. by_number v (sheet named none bytes)) (sym met) in
@@ -23,15 +24,16 @@ returns-in-Ok g c =
       exact = exactly named none bytes (λ i. omega (arith, c.type_inv.bytes i)) (Ok (sheet named none bytes)) told;
     }
 
-pub returns-in-Err : goal.returns-in-Err
-returns-in-Err g c =
+pub returns-in_err-n : goal.returns-in_err-n
+returns-in_err-n g c =
     let named = g.K.Label.named in
     let none = g.K.Label.ops.none in
     let bytes = c.args.bytes.now in
-    let why = c.in-Err.refusal in
-    let told = refused_by why (sheet_check named bytes) (sheet named none bytes) c.in-Err.ensures.checks in
-    record {
+    let p = err_from_is_err_and c.from_residual.result c.from_residual.ensures.1 in
+    let why = c.in_err-n.field-0.0 in
+    let told = refused_by why (sheet_check named bytes) (sheet named none bytes) c.in_err-n.ensures.checks in
+    rw (p.1, p.2) (record {
       answers = told;
       stands = tt;
       exact = exactly named none bytes (λ i. omega (arith, c.type_inv.bytes i)) (Err (number why)) told;
-    }
+    })
