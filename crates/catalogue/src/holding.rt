@@ -1,10 +1,10 @@
 // A layer with holds of its own.
-ghost use Rattle.std.specs.Prelude.{◌≡◌, ◌-◌, ◌≤◌, ◌&&◌, [], ◌∷◌, ◌++◌, length, is_ok, if◌then◌else◌, Ok, Err, nat_lt};
+ghost use Rattle.std.specs.Prelude.{◌≡◌, ◌-◌, ◌&&◌, [], ◌∷◌, ◌++◌, length, is_ok, if◌then◌else◌, Ok, Err, nat_lt};
 ghost use Rattle.catalogue.specs.Refusals.{answer};
 ghost use Rattle.catalogue.specs.Calls.{outside, hold_answer, hold_leaves};
 ghost use Rattle.catalogue.specs.Holds.{packages, HoldingOk, held_over};
 
-use crate::holds::HeldList;
+use crate::holds::{HeldList, add, has, has_room, none_held, remove};
 use crate::interface::{Catalogue, Layer};
 use crate::refusal::Refusal;
 use paths::Arc;
@@ -19,7 +19,7 @@ impl<C: Catalogue> Layer<C> for Holding<C> {
     ghost laid = { held_over [] };
 
     fn over(below: C) -> Holding<C> {
-        let own = HeldList::new();
+        let own = none_held();
         Holding { below, own }
     }
 }
@@ -48,17 +48,17 @@ impl<C: Catalogue> Catalogue for Holding<C> {
     }
 
     fn is_held(&self, p: u32) -> bool {
-        self.own.has(p) || self.below.is_held(p)
+        has(&self.own, p) || self.below.is_held(p)
     }
 
     fn can_hold(&self) -> bool {
-        self.own.has_room() || self.below.can_hold()
+        has_room(&self.own) || self.below.can_hold()
     }
 
     fn arc_at(&self, k: usize) -> Option<Arc<C::Label>> {
         match self.below.arc_at(k) {
             Some(arc) => {
-                if self.own.has(arc.from) || self.own.has(arc.to) {
+                if has(&self.own, arc.from) || has(&self.own, arc.to) {
                     None
                 } else {
                     Some(arc)
@@ -85,15 +85,15 @@ impl<C: Catalogue> Catalogue for Holding<C> {
         ensures fills { packages self.new.own ≡ (if is_ok result && nat_lt 0 (32 - length (packages self.old.own)) then packages self.old.own ++ (p ∷ []) else packages self.old.own) }
     {
         check_hold(&self.own, &self.below, p)?;
-        if self.own.has_room() {
-            self.own.add(p);
+        if has_room(&self.own) {
+            add(&mut self.own, p);
             return Ok(());
         }
         self.below.hold(p)
     }
 
     fn lift(&mut self, p: u32) -> Result<(), Refusal> {
-        if self.own.remove(p) {
+        if remove(&mut self.own, p) {
             return Ok(());
         }
         self.below.lift(p)
@@ -102,14 +102,13 @@ impl<C: Catalogue> Catalogue for Holding<C> {
 
 // The checks of `hold`, but for the holds left.
 fn check_hold<C: Catalogue>(own: &HeldList, below: &C, p: u32) -> Result<(), Refusal>
-    requires few { own.now.len ≤ 32 }
-    requires valid { C.Catalogue.valid below.now }
+    requires { C.Catalogue.valid below.now }
     ensures { answer result ≡ (if outside (C.Catalogue.meaning below.now) p then Err 6 else (if (held_over (packages own.now) (C.Catalogue.meaning below.now)).held p then Err 10 else Ok tt)) }
 {
     if p >= below.n() {
         return Err(Refusal::NoPackage);
     }
-    if own.has(p) || below.is_held(p) {
+    if has(own, p) || below.is_held(p) {
         return Err(Refusal::AlreadyHeld);
     }
     Ok(())

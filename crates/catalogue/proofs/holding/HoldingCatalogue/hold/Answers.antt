@@ -1,4 +1,4 @@
-use Rattle.std.proofs.Common.{◌≡◌, ◌-◌, ◌<◌, cond, ◌&&◌, [], ◌∷◌, ◌++◌, length, is_ok, sym, ap, ◌∙◌, subst, arith, length-take}
+use Rattle.std.proofs.Common.{◌≡◌, ◌-◌, ◌<◌, cond, ◌&&◌, [], ◌∷◌, ◌++◌, length, is_ok, sym, ap, ◌∙◌, subst, arith}
 use Rattle.std.proofs.lemmas.Bool.{ltb-true, ltb-false}
 use Rattle.catalogue.specs.Holds.{packages, OwnOk, held_over}
 use Rattle.catalogue.proofs.Choosing.{and_false}
@@ -12,13 +12,13 @@ returns-then-has_room g c =
     let xs = packages s.own in
     let p = c.args.p in
     let may = may_hold m xs p c.in_ok-check_hold.ensures in
-    let room : length xs < 32 = omega (arith, ltb-true 0 (32 - length xs) (sym c.if-has_room.ensures)) in
+    let room : length xs < 32 = omega (arith, ltb-true 0 (32 - length xs) (sym c.if-has_room.ensures.room)) in
     let e = c.add.ensures in
     record {
-      stays = record { below = c.requires.below; few = e.few; list = subst (OwnOk m.held m.n) (sym e.items) (added_ok m xs p c.requires.list may.inside may.out may.unheld) };
+      stays = record { below = c.requires.below; list = subst (OwnOk m.held m.n) (sym e) (added_ok m xs p c.requires.list may.inside may.out may.unheld) };
       answers = sym (hold_taken m xs p c.requires.list may.inside may.out may.unheld room);
-      leaves = ap (λ ys. held_over ys m) e.items ∙ hold_added m xs p c.requires.list may.inside may.out may.unheld room;
-      fills = e.items ∙ ap (λ b. cond b (xs ++ (p ∷ [])) xs) c.if-has_room.ensures;
+      leaves = ap (λ ys. held_over ys m) e ∙ hold_added m xs p c.requires.list may.inside may.out may.unheld room;
+      fills = e ∙ ap (λ b. cond b (xs ++ (p ∷ [])) xs) c.if-has_room.ensures.room;
     }
 
 pub returns : goal.returns
@@ -28,13 +28,11 @@ returns g c =
     let xs = packages s.own in
     let p = c.args.p in
     let may = may_hold m xs p c.in_ok-check_hold.ensures in
-    let long = length-take s.own.len s.own.list in
-    let few = c.requires.few in
-    let full : length xs ≡ 32 = omega (arith, ltb-false 0 (32 - length xs) (sym c.if-has_room.ensures)) in
+    let full : length xs ≡ 32 = omega (arith, c.has_room.ensures.few, ltb-false 0 (32 - length xs) (sym c.if-has_room.ensures.room)) in
     let e = c.hold.ensures in
     record {
-      stays = record { below = e.stays; few = c.requires.few; list = subst (λ k. OwnOk k.held k.n xs) (sym e.leaves) (passed_ok m xs p c.requires.list may.out) };
+      stays = record { below = e.stays; list = subst (λ k. OwnOk k.held k.n xs) (sym e.leaves) (passed_ok m xs p c.requires.list may.out) };
       answers = e.answers ∙ hold_same m xs p c.requires.list may.out full;
       leaves = ap (held_over xs) e.leaves ∙ hold_passed m xs p c.requires.list may.out full;
-      fills = sym (ap (λ b. cond b (xs ++ (p ∷ [])) xs) (ap (λ b. is_ok c.hold.result && b) (sym c.if-has_room.ensures) ∙ and_false (is_ok c.hold.result)));
+      fills = sym (ap (λ b. cond b (xs ++ (p ∷ [])) xs) (ap (λ b. is_ok c.hold.result && b) (sym c.if-has_room.ensures.room) ∙ and_false (is_ok c.hold.result)));
     }
