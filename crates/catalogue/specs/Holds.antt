@@ -14,11 +14,6 @@ pub record OwnOk (held : ℕ → Bool) (n : ℕ) (xs : List ℕ) : Type 0 where
   pub fresh : (p : ℕ) → within xs p ≡ true → held p ≡ false
   pub inside : (p : ℕ) → within xs p ≡ true → p < n
 
--- what a layer keeps: what lies below is as it should be, and so is its own list
-pub record HoldingOk {L : Type 0} (Below : Type 0) (m : Meaning L) (own : ArrayVec ℕ) : Type 0 where
-  pub below : Below
-  pub list : OwnOk m.held m.n (packages own)
-
 -- what the layer means with these packages over m
 abbrev pub held_over : {L : Type 0} → List ℕ → Meaning L → Meaning L
 held_over xs m = record { n = m.n; stock = m.stock; places = m.places; sealed = m.sealed; held = λ p. within xs p || m.held p; holds = (32 - length xs) + m.holds }

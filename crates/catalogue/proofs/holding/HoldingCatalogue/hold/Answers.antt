@@ -5,6 +5,15 @@ use Rattle.catalogue.proofs.Choosing.{and_false}
 use Rattle.catalogue.proofs.Held.{may_hold, added_ok, hold_taken, hold_added, passed_ok, hold_same, hold_passed}
 use Rattle.catalogue.proofs.holding.HoldingCatalogue.hold.Goals as goal
 
+pub invariant_of-self-then-has_room : goal.invariant_of-self-then-has_room
+invariant_of-self-then-has_room g c =
+    let s = c.args.self.now in
+    let m = g.C.Catalogue.meaning s.below in
+    let xs = packages s.own in
+    let p = c.args.p in
+    let may = may_hold m xs p c.in_ok-check_hold.ensures in
+    record { list = subst (OwnOk m.held m.n) (sym c.add.ensures) (added_ok m xs p s.list may.inside may.out may.unheld) }
+
 pub returns-then-has_room : goal.returns-then-has_room
 returns-then-has_room g c =
     let s = c.args.self.now in
@@ -15,9 +24,8 @@ returns-then-has_room g c =
     let room : length xs < 32 = omega (arith, ltb-true 0 (32 - length xs) (sym c.if-has_room.ensures.room)) in
     let e = c.add.ensures in
     record {
-      stays = record { below = c.requires.below; list = subst (OwnOk m.held m.n) (sym e) (added_ok m xs p c.requires.list may.inside may.out may.unheld) };
-      answers = sym (hold_taken m xs p c.requires.list may.inside may.out may.unheld room);
-      leaves = ap (λ ys. held_over ys m) e ∙ hold_added m xs p c.requires.list may.inside may.out may.unheld room;
+      answers = sym (hold_taken m xs p s.list may.inside may.out may.unheld room);
+      leaves = ap (λ ys. held_over ys m) e ∙ hold_added m xs p s.list may.inside may.out may.unheld room;
       fills = e ∙ ap (λ b. cond b (xs ++ (p ∷ [])) xs) c.if-has_room.ensures.room;
     }
 
@@ -31,8 +39,7 @@ returns g c =
     let full : length xs ≡ 32 = omega (arith, c.has_room.ensures.few, ltb-false 0 (32 - length xs) (sym c.if-has_room.ensures.room)) in
     let e = c.hold.ensures in
     record {
-      stays = record { below = e.stays; list = subst (λ k. OwnOk k.held k.n xs) (sym e.leaves) (passed_ok m xs p c.requires.list may.out) };
-      answers = e.answers ∙ hold_same m xs p c.requires.list may.out full;
-      leaves = ap (held_over xs) e.leaves ∙ hold_passed m xs p c.requires.list may.out full;
+      answers = e.answers ∙ hold_same m xs p s.list may.out full;
+      leaves = ap (held_over xs) e.leaves ∙ hold_passed m xs p s.list may.out full;
       fills = sym (ap (λ b. cond b (xs ++ (p ∷ [])) xs) (ap (λ b. is_ok c.hold.result && b) (sym c.if-has_room.ensures.room) ∙ and_false (is_ok c.hold.result)));
     }
