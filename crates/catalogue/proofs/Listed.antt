@@ -1,9 +1,9 @@
 -- Lists of packages.
-use Rattle.std.proofs.Common.{◌≡◌, ℕ, zero, suc, ◌+◌, ◌-◌, ◌<◌, ◌≤◌, Bool, true, false, cond, not, ◌&&◌, ◌||◌, eqb, ltb, List, [], ◌∷◌, ◌++◌, length, get_or, take, set, filter, sym, refl, ap, ◌∙◌, ⊎_elim, add-one, arith, length-take, get_or-take, take-suc-set}
-use Rattle.std.proofs.lemmas.List.{take_more}
-use Rattle.std.proofs.lemmas.Bool.{eq-eqb, or_left, or_right, lt-ltb, eqb-true, or_from, or_parts, and_parts, and_from, and_right, not-true, cases_Bool, both_ways}
-use Rattle.std.proofs.lemmas.List.Filters.{FiltersInPlace, length-filter_both}
+use Rattle.std.proofs.Common.{◌≡◌, ℕ, ◌+◌, Bool, true, false, cond, not, ◌&&◌, ◌||◌, eqb, ltb, List, [], ◌∷◌, ◌++◌, length, filter, sym, refl, ap, ◌∙◌, ⊎_elim, arith}
+use Rattle.std.proofs.lemmas.Bool.{lt-ltb, eqb-true, or_from, or_parts, and_parts, and_from, and_right, not-true, cases_Bool, both_ways}
+use Rattle.std.proofs.lemmas.List.Filters.{length-filter_both}
 use Rattle.std.proofs.lemmas.Bool.Decides.{nat_tests}
+use Rattle.std.specs.List.{list_any}
 use Rattle.catalogue.specs.Lists.{within, without, once}
 
 pub or_false : (a : Bool) → (a || false) ≡ a
@@ -18,45 +18,25 @@ pub within_push : (xs : List ℕ) (y p : ℕ) → within (xs ++ (y ∷ [])) p �
 within_push [] y p = or_false (eqb p y)
 within_push (x ∷ xs) y p = ap (λ b. eqb p x || b) (within_push xs y p) ∙ sym (or_assoc (eqb p x) (within xs p) (eqb p y))
 
-pub within_more : (xs : List ℕ) (i p : ℕ) → i < length xs → within (take (i + 1) xs) p ≡ (within (take i xs) p || eqb p (get_or xs i 0))
-within_more xs i p h = ap (λ l. within l p) (take_more xs i 0 h) ∙ within_push (take i xs) (get_or xs i 0) p
-
-pub within_at : (xs : List ℕ) (i p : ℕ) → i < length xs → get_or xs i 0 ≡ p → within xs p ≡ true
-within_at [] i p h e = absurd (omega arith)
-within_at (x ∷ xs) zero p h e = or_left (eqb p x) (within xs p) (eq-eqb p x (sym e))
-within_at (x ∷ xs) (suc i) p h e = or_right (eqb p x) (within xs p) (within_at xs i p (omega arith) e)
-
-pub within_front : (xs : List ℕ) (len i p : ℕ) → i < len → len ≤ length xs → get_or xs i 0 ≡ p → within (take len xs) p ≡ true
-within_front xs len i p h k e = within_at (take len xs) i p (simp length-take (omega arith)) (get_or-take len xs i 0 h ∙ e)
-
-pub added : (len p : ℕ) (xs : List ℕ) → len < length xs → take (len + 1) (set xs len p) ≡ take len xs ++ (p ∷ [])
-added len p xs h = rw add-one (take-suc-set xs len p h)
-
 count_within : (xs : List ℕ) (p : ℕ) → ltb 0 (length (filter (λ q. eqb p q) xs)) ≡ within xs p
 count_within [] p = refl
 count_within (x ∷ xs) p =
     elim (eqb p x) as (λ b. ltb 0 (length (cond b (x ∷ filter (λ q. eqb p q) xs) (filter (λ q. eqb p q) xs))) ≡ (b || within xs p))
     [ true ↦ lt-ltb _ _ (omega arith) | false ↦ count_within xs p ]
 
-module _ (p : ℕ) (xs ys : List ℕ) (next i len : ℕ) (inv : FiltersInPlace (λ q. not (eqb p q)) xs ys next i) (end : i ≡ len) where
-  pub out_rest : take next ys ≡ without p (take len xs)
-  out_rest = inv.front ∙ ap (λ j. without p (take j xs)) end
-
-  pub out_found : ltb next len ≡ within (take len xs) p
-  out_found =
-      let a = length-take next ys in
-      let b = ap length out_rest in
-      let both = length-filter_both (λ q. eqb p q) (λ q. not (eqb p q)) (λ _. refl) (take len xs) in
-      let d = length-take len xs in
-      let k = inv.behind in
-      let w = inv.within in
-      let o = inv.long in
-      let z : len - next ≡ length (filter (λ q. eqb p q) (take len xs)) = omega arith in
-      let y : ltb next len ≡ ltb 0 (len - next) = grind (arith, nat_tests) in
-      y ∙ ap (ltb 0) z ∙ count_within (take len xs) p
+pub shorter_without : (p : ℕ) (xs : List ℕ) → ltb (length (without p xs)) (length xs) ≡ within xs p
+shorter_without p xs =
+    let both = length-filter_both (λ q. eqb p q) (λ q. not (eqb p q)) (λ _. refl) xs in
+    let same : ltb (length (without p xs)) (length xs) ≡ ltb 0 (length (filter (λ q. eqb p q) xs)) = grind (arith, nat_tests) in
+    same ∙ count_within xs p
 
 eqb_sym : (a b : ℕ) → eqb a b ≡ eqb b a
 eqb_sym a b = grind (arith, nat_tests)
+
+-- whether the list has p, as `contains` answers
+pub any_within : (xs : List ℕ) (p : ℕ) → list_any (λ q. eqb q p) xs ≡ within xs p
+any_within [] p = refl
+any_within (x ∷ xs) p = ap (λ b. b || list_any (λ q. eqb q p) xs) (eqb_sym x p) ∙ ap (λ b. eqb p x || b) (any_within xs p)
 
 pub or_swap : (a b c : Bool) → (a || (b || c)) ≡ (b || (a || c))
 or_swap true true c = refl

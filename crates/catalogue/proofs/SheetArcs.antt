@@ -18,41 +18,6 @@ use Rattle.catalogue.specs.Meanings.{Meaning, ArcOk, Sound}
 use Rattle.catalogue.specs.Calls.{arc_at, unheld}
 use Rattle.catalogue.specs.SheetMeanings.{labelled, by_number, arc_of, sheet, sheet_made, stated, Exactly}
 
-module _ {L : Type 0} (o : Ops L) (named : ℕ → Option L) (unnamed : Unnamed o named) where
-  entry_ok : (n : ℕ) (e : Entry) → entry_check named n e ≡ 0 → ArcOk o n (arc_of named o.none e)
-  entry_ok n e h =
-      let a = met_cons 5 (ltb e.from n && ltb e.to n) _ h in
-      let b = met_cons 6 (not (eqb e.from e.to)) _ a.1 in
-      let c = met_cons 3 (is_some (named e.word)) _ b.1 in
-      let a' = and_parts (ltb e.from n) (ltb e.to n) a.0 in
-      record {
-        from_in = ltb-true e.from n a'.0;
-        to_in = ltb-true e.to n a'.1;
-        apart = eqb-false e.from e.to (not-true (eqb e.from e.to) b.0);
-        labelled = go (named e.word) refl c.0;
-      }
-    where
-      go : (x : Option L) → named e.word ≡ x → is_some x ≡ true → unwrap_or x o.none ≡ o.none → ⊥
-      go None i h z = false≢true h
-      go (Some x) i h z = unnamed e.word (i ∙ ap Some z)
-
-  entries_ok : (n : ℕ) (es : List Entry) → first_unmet (map (entry_check named n) es) ≡ 0 → AllByRecursion (ArcOk o n) (map (arc_of named o.none) es)
-  entries_ok n [] h = tt
-  entries_ok n (e ∷ es) h =
-      let b = head_met (entry_check named n e) (map (entry_check named n) es) h in
-      (entry_ok n e b.0, entries_ok n es b.1)
-
-  pub sheet_sound : (bytes : List ℕ) → sheet_check named bytes ≡ 0 → Sound o (sheet named o.none bytes)
-  sheet_sound bytes e =
-      let m = all_met named bytes e in
-      record {
-        some = m.some;
-        most = m.most;
-        arcs = entries_ok (count_of bytes) (entries bytes) m.arcs;
-        room = simp length-map (omega (arith, m.few));
-        inside = λ p h. absurd (false≢true h);
-      }
-
 module _ {L : Type 0} (named : ℕ → Option L) (none : L) (bytes : List ℕ) where
   module _ (met : sheet_check named bytes ≡ 0) where
     -- the place of an arc, and its source

@@ -62,16 +62,3 @@ module _ {L : Type 0} where
       over_cond turned (is_ok (withdraw_answer m t f)) (withdrawn m t f) m
       ∙ ap (λ r. cond (is_ok r) (turned (withdrawn m t f)) (turned m)) (withdraw_turned m f t)
       ∙ ap (λ r. cond (is_ok (withdraw_answer (turned m) f t)) r (turned m)) (sym s)
-
-  all_turned : (o : Ops L) (n : ℕ) (xs : List (Arc L)) → AllByRecursion (ArcOk o n) xs → AllByRecursion (ArcOk o n) (map turn xs)
-  all_turned o n [] h = tt
-  all_turned o n (x ∷ xs) h = (record { from_in = h.0.to_in; to_in = h.0.from_in; apart = λ e. h.0.apart (sym e); labelled = h.0.labelled }, all_turned o n xs h.1)
-
-  pub turned_sound : (o : Ops L) (m : Meaning L) → Sound o m → Sound o (turned m)
-  turned_sound o m s = record {
-    some = s.some;
-    most = s.most;
-    arcs = all_turned o m.n m.stock s.arcs;
-    room = rw (length-map m.stock turn) s.room;
-    inside = s.inside;
-  }

@@ -1,24 +1,18 @@
 -- What a layer with holds of its own means.
-use Rattle.std.specs.Prelude.{◌≡◌, ℕ, ◌+◌, ◌-◌, ◌<◌, ◌≤◌, Bool, true, false, ◌||◌, List, length, take}
+use Rattle.std.specs.Prelude.{◌≡◌, ℕ, ◌+◌, ◌-◌, ◌<◌, Bool, true, false, ◌||◌, List, length}
 use Rattle.catalogue.specs.Meanings.{Meaning}
 use Rattle.catalogue.specs.Lists.{within, once}
-use Rattle.catalogue.specs.declared.holds.HeldList.{HeldList}
+use Rattle.arrayvec.specs.ArrayVec.{ArrayVec}
 
 -- the packages of the list
-abbrev pub packages : HeldList → List ℕ
-packages h = take h.len h.list
+abbrev pub packages : ArrayVec ℕ → List ℕ
+packages h = h.items
 
 -- none is twice in the list, held below, or n or more
 pub record OwnOk (held : ℕ → Bool) (n : ℕ) (xs : List ℕ) : Type 0 where
   pub apart : once xs ≡ true
   pub fresh : (p : ℕ) → within xs p ≡ true → held p ≡ false
   pub inside : (p : ℕ) → within xs p ≡ true → p < n
-
--- what a layer keeps: what lies below is as it should be, and so is its own list
-pub record HoldingOk {L : Type 0} (Below : Type 0) (m : Meaning L) (own : HeldList) : Type 0 where
-  pub below : Below
-  pub few : own.len ≤ 32
-  pub list : OwnOk m.held m.n (packages own)
 
 -- what the layer means with these packages over m
 abbrev pub held_over : {L : Type 0} → List ℕ → Meaning L → Meaning L

@@ -8,3 +8,4 @@ pub mod Holds
 pub mod Runs
 pub mod SheetMeanings
 pub mod Makings
+pub mod Sounds

@@ -37,8 +37,3 @@ on_ok f (Err k) = Err k
 abbrev pub meant : {S M : Type 0} → (S → M) → Result S Refusal → Result M ℕ
 meant meaning (Ok s) = Ok (meaning s)
 meant meaning (Err e) = Err (number e)
-
--- what was made is as it should be
-abbrev pub Stands : {S : Type 0} → (S → Type 0) → Result S Refusal → Type 0
-Stands valid (Ok s) = valid s
-Stands valid (Err e) = Unit {0}

@@ -1,10 +1,11 @@
 // A layer with holds of its own.
-ghost use Rattle.std.specs.Prelude.{◌≡◌, ◌-◌, ◌≤◌, ◌&&◌, [], ◌∷◌, ◌++◌, length, is_ok, if◌then◌else◌, Ok, Err, nat_lt};
+ghost use Rattle.std.specs.Prelude.{◌≡◌, ◌-◌, ◌&&◌, [], ◌∷◌, ◌++◌, length, is_ok, if◌then◌else◌, Ok, Err, nat_lt};
 ghost use Rattle.catalogue.specs.Refusals.{answer};
 ghost use Rattle.catalogue.specs.Calls.{outside, hold_answer, hold_leaves};
-ghost use Rattle.catalogue.specs.Holds.{packages, HoldingOk, held_over};
+ghost use Rattle.catalogue.specs.Holds.{packages, OwnOk, held_over};
+ghost use Rattle.catalogue.specs.Sounds.{held_sound};
 
-use crate::holds::HeldList;
+use crate::holds::{HeldList, add, has, has_room, none_held, remove};
 use crate::interface::{Catalogue, Layer};
 use crate::refusal::Refusal;
 use paths::Arc;
@@ -13,13 +14,14 @@ use paths::Arc;
 pub struct Holding<C: Catalogue> {
     below: C,
     own: HeldList,
+    ghost list: { OwnOk (C.Catalogue.meaning below).held (C.Catalogue.meaning below).n (packages own) },
 }
 
 impl<C: Catalogue> Layer<C> for Holding<C> {
     ghost laid = { held_over [] };
 
     fn over(below: C) -> Holding<C> {
-        let own = HeldList::new();
+        let own = none_held();
         Holding { below, own }
     }
 }
@@ -29,7 +31,7 @@ impl<C: Catalogue> Catalogue for Holding<C> {
 
     ghost meaning = { λ s. held_over (packages s.own) (C.Catalogue.meaning s.below) };
 
-    ghost valid = { λ s. HoldingOk (C.Catalogue.valid s.below) (C.Catalogue.meaning s.below) s.own };
+    ghost sound = { λ s. held_sound _ _ _ (C.Catalogue.sound s.below) s.list };
 
     fn n(&self) -> u32 {
         self.below.n()
@@ -48,17 +50,17 @@ impl<C: Catalogue> Catalogue for Holding<C> {
     }
 
     fn is_held(&self, p: u32) -> bool {
-        self.own.has(p) || self.below.is_held(p)
+        has(&self.own, p) || self.below.is_held(p)
     }
 
     fn can_hold(&self) -> bool {
-        self.own.has_room() || self.below.can_hold()
+        has_room(&self.own) || self.below.can_hold()
     }
 
     fn arc_at(&self, k: usize) -> Option<Arc<C::Label>> {
         match self.below.arc_at(k) {
             Some(arc) => {
-                if self.own.has(arc.from) || self.own.has(arc.to) {
+                if has(&self.own, arc.from) || has(&self.own, arc.to) {
                     None
                 } else {
                     Some(arc)
@@ -78,22 +80,20 @@ impl<C: Catalogue> Catalogue for Holding<C> {
 
     // Uses the list while it has room, then passes down.
     fn hold(&mut self, p: u32) -> Result<(), Refusal>
-        requires { HoldingOk (C.Catalogue.valid self.old.below) (C.Catalogue.meaning self.old.below) self.old.own }
-        ensures stays { HoldingOk (C.Catalogue.valid self.new.below) (C.Catalogue.meaning self.new.below) self.new.own }
         ensures answers { answer result ≡ hold_answer (held_over (packages self.old.own) (C.Catalogue.meaning self.old.below)) p }
         ensures leaves { held_over (packages self.new.own) (C.Catalogue.meaning self.new.below) ≡ hold_leaves (held_over (packages self.old.own) (C.Catalogue.meaning self.old.below)) p }
         ensures fills { packages self.new.own ≡ (if is_ok result && nat_lt 0 (32 - length (packages self.old.own)) then packages self.old.own ++ (p ∷ []) else packages self.old.own) }
     {
         check_hold(&self.own, &self.below, p)?;
-        if self.own.has_room() {
-            self.own.add(p);
+        if has_room(&self.own) {
+            add(&mut self.own, p);
             return Ok(());
         }
         self.below.hold(p)
     }
 
     fn lift(&mut self, p: u32) -> Result<(), Refusal> {
-        if self.own.remove(p) {
+        if remove(&mut self.own, p) {
             return Ok(());
         }
         self.below.lift(p)
@@ -102,14 +102,12 @@ impl<C: Catalogue> Catalogue for Holding<C> {
 
 // The checks of `hold`, but for the holds left.
 fn check_hold<C: Catalogue>(own: &HeldList, below: &C, p: u32) -> Result<(), Refusal>
-    requires few { own.now.len ≤ 32 }
-    requires valid { C.Catalogue.valid below.now }
     ensures { answer result ≡ (if outside (C.Catalogue.meaning below.now) p then Err 6 else (if (held_over (packages own.now) (C.Catalogue.meaning below.now)).held p then Err 10 else Ok tt)) }
 {
     if p >= below.n() {
         return Err(Refusal::NoPackage);
     }
-    if own.has(p) || below.is_held(p) {
+    if has(own, p) || below.is_held(p) {
         return Err(Refusal::AlreadyHeld);
     }
     Ok(())

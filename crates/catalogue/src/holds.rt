@@ -3,75 +3,48 @@ ghost use Rattle.std.specs.Prelude.{◌≡◌, ◌-◌, ◌<◌, ◌≤◌, not,
 ghost use Rattle.catalogue.specs.Lists.{within, without};
 ghost use Rattle.catalogue.specs.Holds.{packages};
 
+use arrayvec::ArrayVec;
+
 // How many packages a list takes.
 const MOST_HELD: usize = 32;
 
-// The first `len` are held.
-#[derive(Drop)]
-pub struct HeldList {
-    list: [u32; 32],
-    len: usize,
+pub type HeldList = ArrayVec<u32, MOST_HELD>;
+
+pub(crate) fn none_held() -> HeldList
+    ensures { packages result ≡ [] }
+{
+    ArrayVec::new()
 }
 
-impl HeldList {
-    pub(crate) fn new() -> HeldList
-        ensures few { result.len ≤ 32 }
-        ensures empty { packages result ≡ [] }
-    {
-        HeldList {
-            list: [0; 32],
-            len: 0,
-        }
-    }
+pub(crate) fn has_room(own: &HeldList) -> bool
+    ensures few { length (packages own.now) ≤ 32 }
+    ensures room { result ≡ nat_lt 0 (32 - length (packages own.now)) }
+{
+    own.len() < MOST_HELD
+}
 
-    pub(crate) fn has_room(&self) -> bool
-        requires { self.now.len ≤ 32 }
-        ensures { result ≡ nat_lt 0 (32 - length (packages self.now)) }
-    {
-        self.len < MOST_HELD
-    }
+pub(crate) fn has(own: &HeldList, p: u32) -> bool
+    ensures { result ≡ within (packages own.now) p }
+{
+    own.contains(&p)
+}
 
-    pub(crate) fn has(&self, p: u32) -> bool
-        requires { self.now.len ≤ 32 }
-        ensures { result ≡ within (packages self.now) p }
-    {
-        for i in 0..self.len {
-            if self.list[i] == p {
-                return true;
-            }
-        }
-        false
-    }
+pub(crate) fn add(own: &mut HeldList, p: u32)
+    requires { length (packages own.old) < 32 }
+    ensures { packages own.new ≡ packages own.old ++ (p ∷ []) }
+{
+    own.push(p);
+}
 
-    pub(crate) fn add(&mut self, p: u32)
-        requires few { self.old.len ≤ 32 }
-        requires room { length (packages self.old) < 32 }
-        ensures few { self.new.len ≤ 32 }
-        ensures items { packages self.new ≡ packages self.old ++ (p ∷ []) }
-    {
-        self.list[self.len] = p;
-        self.len += 1;
-    }
-
-    // Takes `p` out of the list, and answers whether it was there.
-    pub(crate) fn remove(&mut self, p: u32) -> bool
-        requires { self.old.len ≤ 32 }
-        ensures few { self.new.len ≤ 32 }
-        ensures found { result ≡ within (packages self.old) p }
-        ensures rest { packages self.new ≡ without p (packages self.old) }
-    {
-        let len = self.len;
-        let mut next = 0;
-        for i in 0..len {
-            let q = self.list[i];
-            if stays(q, p) {
-                self.list[next] = q;
-                next += 1;
-            }
-        }
-        self.len = next;
-        next < len
-    }
+// Takes `p` out of the list, and answers whether it was there.
+pub(crate) fn remove(own: &mut HeldList, p: u32) -> bool
+    ensures few { length (packages own.old) ≤ 32 }
+    ensures found { result ≡ within (packages own.old) p }
+    ensures rest { packages own.new ≡ without p (packages own.old) }
+{
+    let before = own.len();
+    own.retain(|q| stays(*q, p));
+    own.len() < before
 }
 
 // Does package `q` stay where `lifted` goes?

@@ -5,6 +5,7 @@ ghost use Rattle.paths.specs.Arcs.{between, elsewhere};
 ghost use Rattle.catalogue.specs.Refusals.{answer};
 ghost use Rattle.catalogue.specs.Calls.{admit_answer};
 ghost use Rattle.catalogue.specs.Ledgers.{ledger, LedgerOk};
+ghost use Rattle.std.proofs.Props.{props};
 ghost use Rattle.catalogue.specs.Makings.{ledger_of, first_meaning};
 
 use crate::interface::{Catalogue, Make};
@@ -19,6 +20,7 @@ pub struct Ledger<'a, K: Label> {
     n: u32,
     len: usize,
     arcs: &'a mut [Arc<K>],
+    ghost ok: { LedgerOk K.Label.ops n len arcs.now } by { Prim.hlevel props },
 }
 
 // What a ledger is made from.
@@ -47,7 +49,7 @@ impl<'a, K: Label> Catalogue for Ledger<'a, K> {
 
     ghost meaning = { λ s. ledger s.n s.len s.arcs.now };
 
-    ghost valid = { λ s. LedgerOk K.Label.ops s.n s.len s.arcs.now };
+    ghost sound = { λ s. s.ok.sound };
 
     fn n(&self) -> u32 {
         self.n

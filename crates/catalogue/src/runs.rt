@@ -9,8 +9,6 @@ use crate::refusal::Refusal;
 
 // Makes each call in turn, whatever it answers.
 pub fn run<C: Catalogue>(catalogue: &mut C, calls: &[Call<C::Label>])
-    requires { C.Catalogue.valid catalogue.old }
-    ensures stays { C.Catalogue.valid catalogue.new }
     ensures reckoned { C.Catalogue.meaning catalogue.new ≡ reckon C.Label.Label.ops (C.Catalogue.meaning catalogue.old) calls.now }
 {
     for call in calls {
@@ -20,8 +18,6 @@ pub fn run<C: Catalogue>(catalogue: &mut C, calls: &[Call<C::Label>])
 
 // Makes one call, and answers whether it was taken.
 pub fn make_call<C: Catalogue>(catalogue: &mut C, call: Call<C::Label>) -> Result<(), Refusal>
-    requires { C.Catalogue.valid catalogue.old }
-    ensures stays { C.Catalogue.valid catalogue.new }
     ensures answers { answer result ≡ call_answer C.Label.Label.ops (C.Catalogue.meaning catalogue.old) call }
     ensures reckoned { C.Catalogue.meaning catalogue.new ≡ step C.Label.Label.ops (C.Catalogue.meaning catalogue.old) call }
 {

@@ -1,7 +1,8 @@
 // A catalogue read from bytes.
 ghost use Rattle.std.specs.Prelude.{◌≡◌};
-ghost use Rattle.catalogue.specs.Refusals.{meant, Stands};
+ghost use Rattle.catalogue.specs.Refusals.{meant};
 ghost use Rattle.catalogue.specs.SheetMeanings.{sheet, SheetOk, Exactly};
+ghost use Rattle.catalogue.specs.Sounds.{sheet_sound};
 ghost use Rattle.catalogue.specs.Makings.{sheet_of, first_meaning};
 
 use crate::interface::{Catalogue, Make};
@@ -19,6 +20,7 @@ pub struct Sheet<'a, K: Label> {
     arcs: usize,
     bytes: &'a [u8],
     kind: PhantomData<K>,
+    ghost ok: { SheetOk K.Label.named n arcs bytes.now },
 }
 
 impl<'a, K: Label> Catalogue for Sheet<'a, K> {
@@ -26,7 +28,7 @@ impl<'a, K: Label> Catalogue for Sheet<'a, K> {
 
     ghost meaning = { λ s. sheet K.Label.named K.Label.ops.none s.bytes.now };
 
-    ghost valid = { λ s. SheetOk K.Label.named s.n s.arcs s.bytes.now };
+    ghost sound = { λ s. sheet_sound K.Label.ops K.Label.named K.Label.unnamed s.bytes.now s.ok.met };
 
     fn n(&self) -> u32 {
         self.n
@@ -85,7 +87,6 @@ impl<'a, K: Label> Make<&'a [u8]> for Sheet<'a, K> {
 
     fn make(bytes: &'a [u8]) -> Result<Sheet<'a, K>, Refusal>
         ensures answers { meant (λ s. sheet K.Label.named K.Label.ops.none s.bytes.now) result ≡ first_meaning K.Label.ops K.Label.named (sheet_of bytes.now) }
-        ensures stands { Stands (λ s. SheetOk K.Label.named s.n s.arcs s.bytes.now) result }
         ensures exact { Exactly K.Label.named K.Label.ops.none bytes.now (meant (λ s. sheet K.Label.named K.Label.ops.none s.bytes.now) result) }
     {
         let n = check_sheet::<K>(bytes)?;

@@ -5,6 +5,7 @@ ghost use Rattle.paths.specs.Arcs.{turn};
 ghost use Rattle.catalogue.specs.Refusals.{answer};
 ghost use Rattle.catalogue.specs.Calls.{admit_answer, admit_leaves, withdraw_answer, withdraw_leaves};
 ghost use Rattle.catalogue.specs.Turns.{turned};
+ghost use Rattle.catalogue.specs.Sounds.{turned_sound};
 
 use crate::interface::{Catalogue, Layer};
 use crate::refusal::Refusal;
@@ -29,7 +30,7 @@ impl<C: Catalogue> Catalogue for Turned<C> {
 
     ghost meaning = { λ s. turned (C.Catalogue.meaning s.below) };
 
-    ghost valid = { λ s. C.Catalogue.valid s.below };
+    ghost sound = { λ s. turned_sound _ _ (C.Catalogue.sound s.below) };
 
     fn n(&self) -> u32 {
         self.below.n()
@@ -89,8 +90,6 @@ fn admit_turned<C: Catalogue>(
     to: u32,
     label: C::Label,
 ) -> Result<(), Refusal>
-    requires { C.Catalogue.valid below.old }
-    ensures stays { C.Catalogue.valid below.new }
     ensures answers { answer result ≡ admit_answer C.Label.Label.ops (C.Catalogue.meaning below.old) to from label }
     ensures leaves { C.Catalogue.meaning below.new ≡ admit_leaves C.Label.Label.ops (C.Catalogue.meaning below.old) to from label }
 {
@@ -99,8 +98,6 @@ fn admit_turned<C: Catalogue>(
 
 // Withdraws below with the ends exchanged.
 fn withdraw_turned<C: Catalogue>(below: &mut C, from: u32, to: u32) -> Result<usize, Refusal>
-    requires { C.Catalogue.valid below.old }
-    ensures stays { C.Catalogue.valid below.new }
     ensures answers { answer result ≡ withdraw_answer (C.Catalogue.meaning below.old) to from }
     ensures leaves { C.Catalogue.meaning below.new ≡ withdraw_leaves (C.Catalogue.meaning below.old) to from }
 {

@@ -9,9 +9,9 @@ loop-call-preserved g c =
     let m = g.C.Catalogue.meaning c.args.catalogue.now in
     let x = c.call-item.result in
     let e = c.make_call.ensures in
-    (e.stays, e.reckoned ∙ ap (λ k. step o k x) c.loop-call.invariant.1 ∙ reckon_more o m c.args.calls.now c.loop-call.call-index x c.loop-call-test.true c.call-item.is)
+    e.reckoned ∙ ap (λ k. step o k x) c.loop-call.invariant ∙ reckon_more o m c.args.calls.now c.loop-call.call-index x c.loop-call-test.true c.call-item.is
 
 pub returns : goal.returns
 returns g c =
     let m = g.C.Catalogue.meaning c.args.catalogue.now in
-    record { stays = c.loop-call.invariant.0; reckoned = c.loop-call.invariant.1 ∙ ap (reckon g.C.Label.Label.ops m) (take_all _ _ c.loop-call-test.false) }
+    record { reckoned = c.loop-call.invariant ∙ ap (reckon g.C.Label.Label.ops m) (take_all _ _ c.loop-call-test.false) }

@@ -4,4 +4,4 @@ use Rattle.catalogue.proofs.runs.run.Given as goal
 
 abbrev pub invariant-loop-call : goal.invariant-loop-call
 invariant-loop-call g l =
-    g.C.Catalogue.valid l.catalogue × (g.C.Catalogue.meaning l.catalogue ≡ reckon g.C.Label.Label.ops (g.C.Catalogue.meaning l.initial.catalogue) (take l.call-index l.calls))
+    g.C.Catalogue.meaning l.catalogue ≡ reckon g.C.Label.Label.ops (g.C.Catalogue.meaning l.initial.catalogue) (take l.call-index l.calls)

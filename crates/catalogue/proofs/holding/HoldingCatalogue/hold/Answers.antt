@@ -1,9 +1,18 @@
-use Rattle.std.proofs.Common.{◌≡◌, ◌-◌, ◌<◌, cond, ◌&&◌, [], ◌∷◌, ◌++◌, length, is_ok, sym, ap, ◌∙◌, subst, arith, length-take}
+use Rattle.std.proofs.Common.{◌≡◌, ◌-◌, ◌<◌, cond, ◌&&◌, [], ◌∷◌, ◌++◌, length, is_ok, sym, ap, ◌∙◌, subst, arith}
 use Rattle.std.proofs.lemmas.Bool.{ltb-true, ltb-false}
 use Rattle.catalogue.specs.Holds.{packages, OwnOk, held_over}
 use Rattle.catalogue.proofs.Choosing.{and_false}
 use Rattle.catalogue.proofs.Held.{may_hold, added_ok, hold_taken, hold_added, passed_ok, hold_same, hold_passed}
 use Rattle.catalogue.proofs.holding.HoldingCatalogue.hold.Goals as goal
+
+pub invariant_of-self-then-has_room : goal.invariant_of-self-then-has_room
+invariant_of-self-then-has_room g c =
+    let s = c.args.self.now in
+    let m = g.C.Catalogue.meaning s.below in
+    let xs = packages s.own in
+    let p = c.args.p in
+    let may = may_hold m xs p c.in_ok-check_hold.ensures in
+    record { list = subst (OwnOk m.held m.n) (sym c.add.ensures) (added_ok m xs p s.list may.inside may.out may.unheld) }
 
 pub returns-then-has_room : goal.returns-then-has_room
 returns-then-has_room g c =
@@ -12,13 +21,12 @@ returns-then-has_room g c =
     let xs = packages s.own in
     let p = c.args.p in
     let may = may_hold m xs p c.in_ok-check_hold.ensures in
-    let room : length xs < 32 = omega (arith, ltb-true 0 (32 - length xs) (sym c.if-has_room.ensures)) in
+    let room : length xs < 32 = omega (arith, ltb-true 0 (32 - length xs) (sym c.if-has_room.ensures.room)) in
     let e = c.add.ensures in
     record {
-      stays = record { below = c.requires.below; few = e.few; list = subst (OwnOk m.held m.n) (sym e.items) (added_ok m xs p c.requires.list may.inside may.out may.unheld) };
-      answers = sym (hold_taken m xs p c.requires.list may.inside may.out may.unheld room);
-      leaves = ap (λ ys. held_over ys m) e.items ∙ hold_added m xs p c.requires.list may.inside may.out may.unheld room;
-      fills = e.items ∙ ap (λ b. cond b (xs ++ (p ∷ [])) xs) c.if-has_room.ensures;
+      answers = sym (hold_taken m xs p s.list may.inside may.out may.unheld room);
+      leaves = ap (λ ys. held_over ys m) e ∙ hold_added m xs p s.list may.inside may.out may.unheld room;
+      fills = e ∙ ap (λ b. cond b (xs ++ (p ∷ [])) xs) c.if-has_room.ensures.room;
     }
 
 pub returns : goal.returns
@@ -28,13 +36,10 @@ returns g c =
     let xs = packages s.own in
     let p = c.args.p in
     let may = may_hold m xs p c.in_ok-check_hold.ensures in
-    let long = length-take s.own.len s.own.list in
-    let few = c.requires.few in
-    let full : length xs ≡ 32 = omega (arith, ltb-false 0 (32 - length xs) (sym c.if-has_room.ensures)) in
+    let full : length xs ≡ 32 = omega (arith, c.has_room.ensures.few, ltb-false 0 (32 - length xs) (sym c.if-has_room.ensures.room)) in
     let e = c.hold.ensures in
     record {
-      stays = record { below = e.stays; few = c.requires.few; list = subst (λ k. OwnOk k.held k.n xs) (sym e.leaves) (passed_ok m xs p c.requires.list may.out) };
-      answers = e.answers ∙ hold_same m xs p c.requires.list may.out full;
-      leaves = ap (held_over xs) e.leaves ∙ hold_passed m xs p c.requires.list may.out full;
-      fills = sym (ap (λ b. cond b (xs ++ (p ∷ [])) xs) (ap (λ b. is_ok c.hold.result && b) (sym c.if-has_room.ensures) ∙ and_false (is_ok c.hold.result)));
+      answers = e.answers ∙ hold_same m xs p s.list may.out full;
+      leaves = ap (held_over xs) e.leaves ∙ hold_passed m xs p s.list may.out full;
+      fills = sym (ap (λ b. cond b (xs ++ (p ∷ [])) xs) (ap (λ b. is_ok c.hold.result && b) (sym c.if-has_room.ensures.room) ∙ and_false (is_ok c.hold.result)));
     }

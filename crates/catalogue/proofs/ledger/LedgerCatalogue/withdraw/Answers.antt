@@ -3,6 +3,30 @@ use Rattle.std.proofs.lemmas.Bool.{leb-false}
 use Rattle.catalogue.proofs.Taken.{shrunk_ok, same_ok, refused, unchanged, answered, taken}
 use Rattle.catalogue.proofs.ledger.LedgerCatalogue.withdraw.Goals as goal
 
+pub invariant_of-self : goal.invariant_of-self
+invariant_of-self g c =
+    let o = g.K.Label.ops in
+    let s = c.args.self.now in
+    let d = c.drop_between-taken in
+    let e = d.ensures in
+    let f = c.args.from in
+    let t = c.args.to in
+    let from_in = leb-false s.n f (sym c.if-outside.ensures) in
+    let to_in = leb-false s.n t (sym c.if-outside-2.ensures) in
+    record { ok = same_ok f t s.arcs.now d.new.arcs o s.n s.len d.result s.ok from_in to_in e.few e.front e.count d.auto.arcs c.if-taken-eq0.true }
+
+pub invariant_of-self-2 : goal.invariant_of-self-2
+invariant_of-self-2 g c =
+    let o = g.K.Label.ops in
+    let s = c.args.self.now in
+    let d = c.drop_between-taken in
+    let e = d.ensures in
+    let f = c.args.from in
+    let t = c.args.to in
+    let from_in = leb-false s.n f (sym c.if-outside.ensures) in
+    let to_in = leb-false s.n t (sym c.if-outside-2.ensures) in
+    record { ok = shrunk_ok f t s.arcs.now d.new.arcs o s.n s.len d.result s.ok from_in to_in e.few e.front e.count d.auto.arcs }
+
 pub returns-then-taken-eq0 : goal.returns-then-taken-eq0
 returns-then-taken-eq0 g c =
     let o = g.K.Label.ops in
@@ -15,9 +39,8 @@ returns-then-taken-eq0 g c =
     let to_in = leb-false s.n t (sym c.if-outside-2.ensures) in
     let none = c.if-taken-eq0.true in
     record {
-      stays = same_ok f t s.arcs.now d.new.arcs o s.n s.len d.result c.requires from_in to_in e.few e.front e.count d.auto.arcs none;
-      answers = sym (refused f t s.arcs.now d.new.arcs o s.n s.len d.result c.requires from_in to_in e.few e.front e.count d.auto.arcs none);
-      leaves = unchanged f t s.arcs.now d.new.arcs o s.n s.len d.result c.requires from_in to_in e.few e.front e.count d.auto.arcs none;
+      answers = sym (refused f t s.arcs.now d.new.arcs o s.n s.len d.result s.ok from_in to_in e.few e.front e.count d.auto.arcs none);
+      leaves = unchanged f t s.arcs.now d.new.arcs o s.n s.len d.result s.ok from_in to_in e.few e.front e.count d.auto.arcs none;
     }
 
 pub returns : goal.returns
@@ -32,7 +55,6 @@ returns g c =
     let to_in = leb-false s.n t (sym c.if-outside-2.ensures) in
     let some = c.if-taken-eq0.false in
     record {
-      stays = shrunk_ok f t s.arcs.now d.new.arcs o s.n s.len d.result c.requires from_in to_in e.few e.front e.count d.auto.arcs;
-      answers = sym (answered f t s.arcs.now d.new.arcs o s.n s.len d.result c.requires from_in to_in e.few e.front e.count d.auto.arcs some);
-      leaves = taken f t s.arcs.now d.new.arcs o s.n s.len d.result c.requires from_in to_in e.few e.front e.count d.auto.arcs some;
+      answers = sym (answered f t s.arcs.now d.new.arcs o s.n s.len d.result s.ok from_in to_in e.few e.front e.count d.auto.arcs some);
+      leaves = taken f t s.arcs.now d.new.arcs o s.n s.len d.result s.ok from_in to_in e.few e.front e.count d.auto.arcs some;
     }

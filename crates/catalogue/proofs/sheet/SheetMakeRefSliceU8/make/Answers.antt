@@ -8,19 +8,23 @@ use Rattle.catalogue.proofs.Numbers.{refused_by}
 use Rattle.catalogue.proofs.SheetArcs.{exactly}
 use Rattle.catalogue.proofs.sheet.SheetMakeRefSliceU8.make.Goals as goal
 
+pub invariant_of-result : goal.invariant_of-result
+invariant_of-result g c =
+    let met = sym c.in_ok-n.ensures.checks in
+    let n = c.in_ok-n.ensures.count in
+    let m = all_met g.K.Label.named c.args.bytes.now met in
+    let total = entries_length g.K.Label.named c.args.bytes.now m.pairs in
+    record { ok = record { count = n; stocked = omega (arith, n, m.ends); met = met } }
+
 pub returns : goal.returns
 returns g c =
     let named = g.K.Label.named in
     let none = g.K.Label.ops.none in
     let bytes = c.args.bytes.now in
     let met = sym c.in_ok-n.ensures.checks in
-    let n = c.in_ok-n.ensures.count in
-    let m = all_met named bytes met in
-    let total = entries_length named bytes m.pairs in
     let told : Ok (sheet named none bytes) ≡ sheet_made named none bytes = ap (λ v. by_number v (sheet named none bytes)) (sym met) in
     record {
       answers = told;
-      stands = record { count = n; stocked = omega (arith, n, m.ends); met = met };
       exact = exactly named none bytes (λ i. omega (arith, c.type_inv.bytes i)) (Ok (sheet named none bytes)) told;
     }
 
@@ -34,6 +38,5 @@ returns-in_err-n g c =
     let told = refused_by why (sheet_check named bytes) (sheet named none bytes) c.in_err-n.ensures.checks in
     rw (p.1, p.2) (record {
       answers = told;
-      stands = tt;
       exact = exactly named none bytes (λ i. omega (arith, c.type_inv.bytes i)) (Err (number why)) told;
     })

@@ -9,7 +9,6 @@ returns g c =
     let o = g.C.Label.Label.ops in
     let e = c.admit_turned.ensures in
     record {
-      stays = e.stays;
       answers = e.answers ∙ admit_turned o m c.args.from c.args.to c.args.label;
       leaves = ap turned e.leaves ∙ admit_turned_leaves o m c.args.from c.args.to c.args.label;
     }

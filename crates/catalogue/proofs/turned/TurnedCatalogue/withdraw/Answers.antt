@@ -8,7 +8,6 @@ returns g c =
     let m = g.C.Catalogue.meaning c.args.self.now.below in
     let e = c.withdraw_turned.ensures in
     record {
-      stays = e.stays;
       answers = e.answers ∙ withdraw_turned m c.args.from c.args.to;
       leaves = ap turned e.leaves ∙ withdraw_turned_leaves m c.args.from c.args.to;
     }
