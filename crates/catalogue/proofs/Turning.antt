@@ -3,13 +3,13 @@ use Rattle.std.proofs.Common.{◌≡◌, ℕ, zero, suc, cond, not, eqb, List, [
 use mathlib.Core.Path.{fun_ext}
 use lib.ListN.{length-map}
 use Rattle.std.specs.Option.{option_map}
-use Rattle.std.specs.List.{AllByRecursion, slice_get}
+use Rattle.std.specs.List.{slice_get}
 use Rattle.std.proofs.lemmas.List.{map-append}
 use Rattle.std.proofs.lemmas.Bool.Decides.{nat_tests}
 use Rattle.labels.specs.Algebra.{Ops}
 use Rattle.paths.specs.declared.arc.Arc.{Arc}
 use Rattle.paths.specs.Arcs.{between, elsewhere, turn}
-use Rattle.catalogue.specs.Meanings.{Meaning, ArcOk, Sound, free_ends}
+use Rattle.catalogue.specs.Meanings.{Meaning, free_ends}
 use Rattle.catalogue.specs.Calls.{arc_at, unheld, matching, outside, admit_answer, admit_leaves, admitted, withdraw_answer, withdraw_leaves, withdrawn}
 use Rattle.catalogue.specs.Turns.{turned}
 use Rattle.catalogue.proofs.Choosing.{or_comm, and_comm, over_cond, kept_by_map}

@@ -2,11 +2,11 @@
 use Rattle.std.specs.Prelude.{◌≡◌, ℕ, ◌+◌, ◌-◌, ◌<◌, Bool, true, false, ◌||◌, List, length}
 use Rattle.catalogue.specs.Meanings.{Meaning}
 use Rattle.catalogue.specs.Lists.{within, once}
-use Rattle.arrayvec.specs.ArrayVec.{ArrayVec}
+use Rattle.catalogue.specs.declared.holds.HeldList.{HeldList}
 
 -- the packages of the list
-abbrev pub packages : ArrayVec ℕ → List ℕ
-packages h = h.items
+abbrev pub packages : HeldList → List ℕ
+packages h = h.list.items
 
 -- none is twice in the list, held below, or n or more
 pub record OwnOk (held : ℕ → Bool) (n : ℕ) (xs : List ℕ) : Type 0 where

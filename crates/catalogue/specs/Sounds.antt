@@ -1,23 +1,14 @@
 -- Every meaning is sound.
-use Rattle.std.proofs.Common.{◌≡◌, ℕ, zero, suc, ◌+◌, ◌*◌, ◌<◌, ◌≤◌, true, false, not, ◌&&◌, eqb, ltb, List, [], ◌∷◌, map, length, ◌||◌, ⊎_elim, get_or, is_some, is_ok, Some, None, Ok, Option, Result, unwrap_or, sym, refl, ap, ◌∙◌, arith}
+use Rattle.std.proofs.Common.{◌≡◌, ℕ, true, not, ◌&&◌, eqb, ltb, List, [], ◌∷◌, map, ⊎_elim, is_some, Some, None, Option, unwrap_or, sym, refl, ap, ◌∙◌, arith}
 use lib.ListN.{length-map}
 use Rattle.std.specs.List.{AllByRecursion}
-use Rattle.std.proofs.lemmas.Option.{slice_get_past}
 use Rattle.std.proofs.lemmas.Bool.{or_cases, and_parts, eqb-false, ltb-true, not-true, false≢true}
 use Rattle.labels.specs.Algebra.{Ops, Unnamed}
-use Rattle.paths.specs.Arcs.{arc}
-use Rattle.sheets.specs.Sheets.{word_at, offset_of, count_of, Entry, entries, first_unmet, entry_check, sheet_check}
-use Rattle.sheets.specs.Layout.{Mark, States}
+use Rattle.sheets.specs.Sheets.{count_of, Entry, entries, first_unmet, entry_check, sheet_check}
 use Rattle.sheets.proofs.Checks.{met_cons, head_met}
-use Rattle.sheets.proofs.Stock.{nth_map}
-use Rattle.sheets.proofs.Passes.{all_met, entry_found, unnamed_not}
-use Rattle.sheets.proofs.Accepted.{accepts, counts, states}
-use Rattle.sheets.proofs.Unread.{runs_of, states_runs}
-use Rattle.sheets.proofs.Unique.{unique}
+use Rattle.sheets.proofs.Passes.{all_met}
 use Rattle.catalogue.specs.Meanings.{Meaning, ArcOk, Sound}
-use Rattle.catalogue.specs.Calls.{arc_at, unheld}
-use Rattle.catalogue.specs.SheetMeanings.{labelled, by_number, arc_of, sheet, sheet_made, stated, Exactly}
-
+use Rattle.catalogue.specs.SheetMeanings.{arc_of, sheet}
 use Rattle.paths.specs.Arcs.{turn}
 use Rattle.paths.specs.declared.arc.Arc.{Arc}
 use Rattle.catalogue.specs.Lists.{within}

@@ -1,12 +1,12 @@
 // A layer with holds of its own.
 ghost use Rattle.std.specs.Prelude.{◌≡◌, ◌-◌, ◌&&◌, [], ◌∷◌, ◌++◌, length, is_ok, if◌then◌else◌, Ok, Err, nat_lt};
-ghost use Rattle.catalogue.specs.Refusals.{answer};
+ghost use Rattle.catalogue.specs.Refusals.{answer, on_ok};
 ghost use Rattle.catalogue.specs.Calls.{outside, hold_answer, hold_leaves};
 ghost use Rattle.catalogue.specs.Holds.{packages, OwnOk, held_over};
 ghost use Rattle.catalogue.specs.Sounds.{held_sound};
 
-use crate::holds::{HeldList, add, has, has_room, none_held, remove};
-use crate::interface::{Catalogue, Layer};
+use crate::holds::HeldList;
+use crate::interface::{Catalogue, Layer, Make};
 use crate::refusal::Refusal;
 use paths::Arc;
 
@@ -21,8 +21,16 @@ impl<C: Catalogue> Layer<C> for Holding<C> {
     ghost laid = { held_over [] };
 
     fn over(below: C) -> Holding<C> {
-        let own = none_held();
+        let own = HeldList::new();
         Holding { below, own }
+    }
+}
+
+impl<S, C: Make<S>> Make<S> for Holding<C> {
+    ghost first = { λ s. on_ok (held_over []) (C.Make.first s) };
+
+    fn make(source: S) -> Result<Holding<C>, Refusal> {
+        Ok(Holding::over(C::make(source)?))
     }
 }
 
@@ -50,24 +58,17 @@ impl<C: Catalogue> Catalogue for Holding<C> {
     }
 
     fn is_held(&self, p: u32) -> bool {
-        has(&self.own, p) || self.below.is_held(p)
+        self.own.has(p) || self.below.is_held(p)
     }
 
     fn can_hold(&self) -> bool {
-        has_room(&self.own) || self.below.can_hold()
+        self.own.has_room() || self.below.can_hold()
     }
 
     fn arc_at(&self, k: usize) -> Option<Arc<C::Label>> {
-        match self.below.arc_at(k) {
-            Some(arc) => {
-                if has(&self.own, arc.from) || has(&self.own, arc.to) {
-                    None
-                } else {
-                    Some(arc)
-                }
-            }
-            None => None,
-        }
+        self.below
+            .arc_at(k)
+            .filter(|arc| !(self.own.has(arc.from) || self.own.has(arc.to)))
     }
 
     fn admit(&mut self, from: u32, to: u32, label: C::Label) -> Result<(), Refusal> {
@@ -85,15 +86,15 @@ impl<C: Catalogue> Catalogue for Holding<C> {
         ensures fills { packages self.new.own ≡ (if is_ok result && nat_lt 0 (32 - length (packages self.old.own)) then packages self.old.own ++ (p ∷ []) else packages self.old.own) }
     {
         check_hold(&self.own, &self.below, p)?;
-        if has_room(&self.own) {
-            add(&mut self.own, p);
+        if self.own.has_room() {
+            self.own.add(p);
             return Ok(());
         }
         self.below.hold(p)
     }
 
     fn lift(&mut self, p: u32) -> Result<(), Refusal> {
-        if remove(&mut self.own, p) {
+        if self.own.remove(p) {
             return Ok(());
         }
         self.below.lift(p)
@@ -107,7 +108,7 @@ fn check_hold<C: Catalogue>(own: &HeldList, below: &C, p: u32) -> Result<(), Ref
     if p >= below.n() {
         return Err(Refusal::NoPackage);
     }
-    if has(own, p) || below.is_held(p) {
+    if own.has(p) || below.is_held(p) {
         return Err(Refusal::AlreadyHeld);
     }
     Ok(())

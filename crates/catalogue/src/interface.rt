@@ -60,7 +60,7 @@ pub trait Catalogue {
     ghost sound: { (c : Self) → Sound Self.Label.Label.ops (meaning c) };
 }
 
-// A bottom: a catalogue made from what the caller hands in.
+// A catalogue made from what the caller hands in: a bottom, or a stack over one.
 pub trait Make<S>: Catalogue + Sized {
     // What is made of it means at first, or the refusal's number.
     ghost first: { S → Result (Meaning Self.Label) ℕ };

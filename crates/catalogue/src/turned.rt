@@ -2,12 +2,12 @@
 ghost use Rattle.std.specs.Prelude.{◌≡◌};
 ghost use Rattle.std.specs.Option.{option_map};
 ghost use Rattle.paths.specs.Arcs.{turn};
-ghost use Rattle.catalogue.specs.Refusals.{answer};
+ghost use Rattle.catalogue.specs.Refusals.{answer, on_ok};
 ghost use Rattle.catalogue.specs.Calls.{admit_answer, admit_leaves, withdraw_answer, withdraw_leaves};
 ghost use Rattle.catalogue.specs.Turns.{turned};
 ghost use Rattle.catalogue.specs.Sounds.{turned_sound};
 
-use crate::interface::{Catalogue, Layer};
+use crate::interface::{Catalogue, Layer, Make};
 use crate::refusal::Refusal;
 use labels::Label;
 use paths::Arc;
@@ -22,6 +22,14 @@ impl<C: Catalogue> Layer<C> for Turned<C> {
 
     fn over(below: C) -> Turned<C> {
         Turned { below }
+    }
+}
+
+impl<S, C: Make<S>> Make<S> for Turned<C> {
+    ghost first = { λ s. on_ok turned (C.Make.first s) };
+
+    fn make(source: S) -> Result<Turned<C>, Refusal> {
+        Ok(Turned::over(C::make(source)?))
     }
 }
 
