@@ -8,8 +8,6 @@ use catalogue::Catalogue;
 
 // Asks every question, then makes a call of each sort.
 pub fn exercise<C: Catalogue>(catalogue: &mut C, with: Arguments<C::Label>) -> Answers<C::Label>
-    requires { C.Catalogue.valid catalogue.old }
-    ensures stays { C.Catalogue.valid catalogue.new }
     ensures answers { Exercised C.Label.Label.ops (C.Catalogue.meaning catalogue.old) with result }
     ensures leaves { C.Catalogue.meaning catalogue.new ≡ reckon C.Label.Label.ops (C.Catalogue.meaning catalogue.old) (calls with) }
 {
@@ -20,7 +18,6 @@ pub fn exercise<C: Catalogue>(catalogue: &mut C, with: Arguments<C::Label>) -> A
 
 // Asks every question.
 pub fn ask<C: Catalogue>(catalogue: &C, with: Arguments<C::Label>) -> Replies<C::Label>
-    requires { C.Catalogue.valid catalogue.now }
     ensures { Asked (C.Catalogue.meaning catalogue.now) with result }
 {
     Replies {
@@ -36,8 +33,6 @@ pub fn ask<C: Catalogue>(catalogue: &C, with: Arguments<C::Label>) -> Replies<C:
 
 // Makes a call of each sort.
 pub fn call_each<C: Catalogue>(catalogue: &mut C, with: Arguments<C::Label>) -> Outcomes
-    requires { C.Catalogue.valid catalogue.old }
-    ensures stays { C.Catalogue.valid catalogue.new }
     ensures answers { Called C.Label.Label.ops (C.Catalogue.meaning catalogue.old) with result }
     ensures leaves { C.Catalogue.meaning catalogue.new ≡ reckon C.Label.Label.ops (C.Catalogue.meaning catalogue.old) (calls with) }
 {

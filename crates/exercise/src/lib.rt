@@ -9,5 +9,6 @@ mod stacks;
 pub use answers::{Answers, Arguments, Outcomes, Replies};
 pub use asking::{ask, call_each, exercise};
 pub use stacks::{
-    exercise_four_layers, exercise_holding, exercise_ledger, exercise_sheet, exercise_turned,
+    exercise_four_layers, exercise_holding, exercise_ledger, exercise_made, exercise_sheet,
+    exercise_turned,
 };

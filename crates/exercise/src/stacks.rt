@@ -1,13 +1,24 @@
-// Each make, and a stack of four layers, from the making on.
+// Each make, and stacks of layers, from the making on.
 ghost use Rattle.std.specs.Prelude.{◌≡◌, length};
 ghost use Rattle.catalogue.specs.Makings.{ledger_of, sheet_of, turned_over, holding_over};
-ghost use Rattle.exercise.specs.Exercised.{FromMaking};
+ghost use Rattle.exercise.specs.Exercised.{FromFirst, FromMaking};
 
 use crate::answers::{Answers, Arguments};
 use crate::asking::exercise;
-use catalogue::{Blank, Holding, Layer, Ledger, Make, Refusal, Sheet, Turned};
+use catalogue::{Blank, Holding, Ledger, Make, Refusal, Sheet, Turned};
 use labels::Label;
 use paths::Arc;
+
+// Makes a catalogue, asks it every question, then makes a call of each sort.
+pub fn exercise_made<S, M: Make<S> + Drop>(
+    source: S,
+    with: Arguments<M::Label>,
+) -> Result<Answers<M::Label>, Refusal>
+    ensures { FromFirst M.Label.Label.ops (M.Make.first source) with result }
+{
+    let mut made = M::make(source)?;
+    Ok(exercise(&mut made, with))
+}
 
 pub fn exercise_ledger<K: Label>(
     n: u32,
@@ -16,15 +27,13 @@ pub fn exercise_ledger<K: Label>(
 ) -> Result<Answers<K>, Refusal>
     ensures { FromMaking K.Label.ops K.Label.named (ledger_of n (length arcs.old)) with result }
 {
-    let mut ledger = Ledger::make(Blank { n, arcs })?;
-    Ok(exercise(&mut ledger, with))
+    exercise_made::<_, Ledger<K>>(Blank { n, arcs }, with)
 }
 
 pub fn exercise_sheet<K: Label>(bytes: &[u8], with: Arguments<K>) -> Result<Answers<K>, Refusal>
     ensures { FromMaking K.Label.ops K.Label.named (sheet_of bytes.now) with result }
 {
-    let mut sheet = Sheet::<K>::make(bytes)?;
-    Ok(exercise(&mut sheet, with))
+    exercise_made::<_, Sheet<K>>(bytes, with)
 }
 
 pub fn exercise_turned<K: Label>(
@@ -34,9 +43,7 @@ pub fn exercise_turned<K: Label>(
 ) -> Result<Answers<K>, Refusal>
     ensures { FromMaking K.Label.ops K.Label.named (turned_over (ledger_of n (length arcs.old))) with result }
 {
-    let ledger = Ledger::make(Blank { n, arcs })?;
-    let mut turned = Turned::over(ledger);
-    Ok(exercise(&mut turned, with))
+    exercise_made::<_, Turned<Ledger<K>>>(Blank { n, arcs }, with)
 }
 
 pub fn exercise_holding<K: Label>(
@@ -46,9 +53,7 @@ pub fn exercise_holding<K: Label>(
 ) -> Result<Answers<K>, Refusal>
     ensures { FromMaking K.Label.ops K.Label.named (holding_over (ledger_of n (length arcs.old))) with result }
 {
-    let ledger = Ledger::make(Blank { n, arcs })?;
-    let mut holding = Holding::over(ledger);
-    Ok(exercise(&mut holding, with))
+    exercise_made::<_, Holding<Ledger<K>>>(Blank { n, arcs }, with)
 }
 
 pub fn exercise_four_layers<K: Label>(
@@ -58,10 +63,5 @@ pub fn exercise_four_layers<K: Label>(
 ) -> Result<Answers<K>, Refusal>
     ensures { FromMaking K.Label.ops K.Label.named (holding_over (turned_over (holding_over (turned_over (ledger_of n (length arcs.old)))))) with result }
 {
-    let ledger = Ledger::make(Blank { n, arcs })?;
-    let turned = Turned::over(ledger);
-    let holding = Holding::over(turned);
-    let again = Turned::over(holding);
-    let mut top = Holding::over(again);
-    Ok(exercise(&mut top, with))
+    exercise_made::<_, Holding<Turned<Holding<Turned<Ledger<K>>>>>>(Blank { n, arcs }, with)
 }
