@@ -36,9 +36,8 @@ pub(crate) fn direct<C: Catalogue>(catalogue: &C, n: usize, cells: &mut [C::Labe
     clear(cells);
     let places = catalogue.stock_len();
     for k in 0..places {
-        match catalogue.arc_at(k) {
-            Some(arc) => join_to(cells, place(arc.from, arc.to, n), arc.label),
-            None => {}
+        if let Some(arc) = catalogue.arc_at(k) {
+            join_to(cells, place(arc.from, arc.to, n), arc.label);
         }
     }
 }

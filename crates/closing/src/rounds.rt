@@ -134,9 +134,8 @@ fn spread<C: Catalogue>(catalogue: &C, n: usize, changed: &[C::Label], found: &m
 {
     let places = catalogue.stock_len();
     for k in 0..places {
-        match catalogue.arc_at(k) {
-            Some(arc) => follow(arc, n, changed, found),
-            None => {}
+        if let Some(arc) = catalogue.arc_at(k) {
+            follow(arc, n, changed, found);
         }
     }
 }

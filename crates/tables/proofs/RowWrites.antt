@@ -36,12 +36,12 @@ module _ {M : Type 0} (o : Ops M) (first : M) where
   step (x ∷ row) (y ∷ via) (suc j) d e h k = ap (λ r. o.join x (o.extend first y) ∷ r) (step row via j d e (omega arith) (omega arith))
 
   -- one more column
-  pub relaxed_more : (row via now next : List M) (j : ℕ) → j < length row → length via ≡ length row → now ≡ relaxed o first row (take j via)
-      → next ≡ set now j (o.join (get_or now j o.none) (o.extend first (get_or via j o.none))) → next ≡ relaxed o first row (take (j + 1) via)
-  relaxed_more row via now next j h e at made =
-      made
-      ∙ ap₂ (λ l x. set l j (o.join x (o.extend first (get_or via j o.none)))) at (ap (λ l. get_or l j o.none) at ∙ ahead row via j o.none)
-      ∙ step row via j o.none o.none h (omega arith)
+  pub relaxed_more : (row via now : List M) (j : ℕ) (x y new : M) → j < length row → length via ≡ length row → now ≡ relaxed o first row (take j via)
+      → new ≡ o.join (get_or now j x) (o.extend first y) → y ≡ get_or via j y → set now j new ≡ relaxed o first row (take (j + 1) via)
+  relaxed_more row via now j x y new h e at made read =
+      ap (set now j) (made ∙ ap (λ z. o.join (get_or now j x) (o.extend first z)) read)
+      ∙ ap₂ (λ l z. set l j (o.join z (o.extend first (get_or via j y)))) at (ap (λ l. get_or l j x) at ∙ ahead row via j x)
+      ∙ step row via j x y h (omega arith)
       ∙ ap (λ k. relaxed o first row (take k via)) (sym (add-one j))
 
 module _ {M : Type 0} (o : Ops M) (n : ℕ) (cells new : List M) (f : ℕ) (room : f * n + n ≤ length cells) (fits : length new ≡ n) where

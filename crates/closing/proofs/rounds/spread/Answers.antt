@@ -4,7 +4,7 @@ use Rattle.paths.proofs.Joins.{none_join}
 use Rattle.tables.proofs.InForce.{answered_in, along_start, along_none}
 use Rattle.tables.proofs.Turns.{led, led_more}
 use Rattle.closing.proofs.rounds.spread.Goals as goal
-use Rattle.closing.proofs.rounds.spread.Goals.{in-Some, in-None}
+use Rattle.closing.proofs.rounds.spread.Goals.{in-Some, in_default}
 
 pub loop-k-init : goal.loop-k-init
 loop-k-init g c =
@@ -31,5 +31,5 @@ loop-k-preserved g c =
     elim c.match-arc_at.branch [
       | in-Some w ↦ led_more o g.met.C.Label.Label.laws m n k S changed found c.loop-k.invariant c.requires.sound c.requires.size c.requires.changed (omega (arith, c.loop-k.auto.found, c.requires.found))
           w.in-Some.arc w.in-Some.ensures c.match-arc_at.found w.follow.new.found w.found-is w.follow.ensures
-      | in-None w ↦ along_none m o n (led o S (cell o n changed)) k found c.match-arc_at.found c.loop-k.invariant w.in-None.ensures w.found-is
+      | in_default w ↦ along_none m o n (led o S (cell o n changed)) k found c.match-arc_at.found c.loop-k.invariant w.in_default.ensures w.found-is
     ]
