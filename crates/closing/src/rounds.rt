@@ -1,5 +1,5 @@
 // Closing by rounds: each round extends by one arc what the round before it changed.
-ghost use Rattle.std.specs.Prelude.{◌≡◌, ℕ, ◌+◌, ◌*◌, ◌<◌, ◌≤◌, true, false, not, length, take, is_ok, if◌then◌else◌, Ok, slice_index_or, slice_set};
+ghost use Rattle.std.specs.Prelude.{◌≡◌, ℕ, ◌+◌, ◌*◌, ◌<◌, ◌≤◌, true, false, not, length, take, is_ok, if◌then◌else◌, Ok};
 ghost use Rattle.paths.specs.Chains.{L};
 ghost use Rattle.paths.specs.Tables.{cell, Shows, LeastStill, rounds_made};
 ghost use Rattle.paths.specs.Closures.{Closure};
@@ -140,19 +140,18 @@ fn spread<C: Catalogue>(catalogue: &C, n: usize, changed: &[C::Label], found: &m
     }
 }
 
-// Joins to one cell what was found, keeps the new label where it differs, and answers whether it does.
-fn settle_at<K: Label>(cells: &mut [K], changed: &mut [K], found: &mut [K], u: usize) -> bool
-    requires { (u < length cells.old) × ((u < length changed.old) × (u < length found.old)) }
-    ensures joined { cells.new ≡ slice_set cells.old u (K.ops.join (slice_index_or cells.old u K.ops.none) (slice_index_or found.old u K.ops.none)) }
-    ensures told { changed.new ≡ slice_set changed.old u (if result then K.ops.join (slice_index_or cells.old u K.ops.none) (slice_index_or found.old u K.ops.none) else K.ops.none) }
-    ensures clean { found.new ≡ slice_set found.old u K.ops.none }
-    ensures moved { result ≡ not (K.ops.same (K.ops.join (slice_index_or cells.old u K.ops.none) (slice_index_or found.old u K.ops.none)) (slice_index_or cells.old u K.ops.none)) }
+// Joins to a cell what was found, keeps the new label where it differs, and answers whether it does.
+fn settle_cell<K: Label>(cell: &mut K, changed: &mut K, found: &mut K) -> bool
+    ensures joined { cell.new ≡ K.ops.join cell.old found.old }
+    ensures told { changed.new ≡ (if result then K.ops.join cell.old found.old else K.ops.none) }
+    ensures clean { found.new ≡ K.ops.none }
+    ensures moved { result ≡ not (K.ops.same (K.ops.join cell.old found.old) cell.old) }
 {
-    let new = cells[u].join(found[u]);
-    let moved = !new.same(cells[u]);
-    cells[u] = new;
-    changed[u] = if moved { new } else { K::NONE.label() };
-    found[u] = K::NONE.label();
+    let new = cell.join(*found);
+    let moved = !new.same(*cell);
+    *cell = new;
+    *changed = if moved { new } else { K::NONE.label() };
+    *found = K::NONE.label();
     moved
 }
 
@@ -163,9 +162,8 @@ fn settle<K: Label>(cells: &mut [K], changed: &mut [K], found: &mut [K]) -> bool
     ensures { Settled K.ops cells.old found.old cells.new changed.new found.new (length cells.old) result }
 {
     let mut moved = false;
-    for u in 0..cells.len() {
-        let here = settle_at(cells, changed, found, u);
-        moved = moved | here;
+    for (u, cell) in cells.iter_mut().enumerate() {
+        moved |= settle_cell(cell, &mut changed[u], &mut found[u]);
     }
     moved
 }
