@@ -1,4 +1,4 @@
-use Rattle.std.proofs.Common.{◌++◌, ◌∙◌, ap, arith}
+use Rattle.std.proofs.Common.{◌++◌, ◌∙◌, ap}
 use Rattle.tables.proofs.Stages.{stage}
 use Rattle.closing.proofs.elimination.pass_through.Goals as goal
 

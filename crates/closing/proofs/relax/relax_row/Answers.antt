@@ -1,4 +1,3 @@
-use Rattle.std.proofs.Common.{arith}
 use Rattle.tables.proofs.RowWrites.{relaxed_more}
 use Rattle.closing.proofs.relax.relax_row.Goals as goal
 
