@@ -1,5 +1,5 @@
 -- One stage of the elimination, row by row and in place.
-use Rattle.std.proofs.Common.{◌≡◌, ℕ, ◌+◌, ◌-◌, ◌*◌, ◌<◌, ◌≤◌, Bool, true, false, cond, not, ltb, ◌≢◌, List, ◌++◌, length, get_or, sym, refl, ap, ◌∙◌, subst, ap₂, add-one, length-append, arith}
+use Rattle.std.proofs.Common.{◌≡◌, ℕ, ◌+◌, ◌-◌, ◌*◌, ◌<◌, Bool, true, false, cond, not, ltb, List, ◌++◌, length, get_or, sym, refl, ap, ◌∙◌, subst, ap₂, add-one, length-append, arith}
 use native.Mathlib.Decide.{ℕ_discrete, dec_lt}
 use Rattle.std.proofs.Math.Nat.{add-mul}
 use Rattle.std.proofs.lemmas.Nat.{mul-add-lt, row_fits}
