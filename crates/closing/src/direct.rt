@@ -2,7 +2,7 @@
 ghost use Rattle.std.specs.Prelude.{◌≡◌, ℕ, ◌*◌, ◌<◌, length, slice_index_or, slice_set};
 ghost use Rattle.paths.specs.Chains.{L};
 ghost use Rattle.paths.specs.Tables.{Shows};
-ghost use Rattle.catalogue.specs.Meanings.{Sound, in_force};
+ghost use Rattle.catalogue.specs.Meanings.{in_force};
 
 use crate::places::place;
 use catalogue::Catalogue;
@@ -27,8 +27,6 @@ fn join_to<K: Label>(cells: &mut [K], at: usize, label: K)
 
 // Writes L(1): the label of every arc in force, joined into the cell of its ends.
 pub(crate) fn direct<C: Catalogue>(catalogue: &C, n: usize, cells: &mut [C::Label])
-    requires valid { C.Catalogue.valid catalogue.now }
-    requires sound { Sound C.Label.Label.ops (C.Catalogue.meaning catalogue.now) }
     requires size { n ≡ (C.Catalogue.meaning catalogue.now).n }
     requires square { length cells.old ≡ n * n }
     ensures { Shows C.Label.Label.ops n cells.new (L C.Label.Label.ops (in_force (C.Catalogue.meaning catalogue.now)) 1) }
@@ -36,9 +34,8 @@ pub(crate) fn direct<C: Catalogue>(catalogue: &C, n: usize, cells: &mut [C::Labe
     clear(cells);
     let places = catalogue.stock_len();
     for k in 0..places {
-        match catalogue.arc_at(k) {
-            Some(arc) => join_to(cells, place(arc.from, arc.to, n), arc.label),
-            None => {}
+        if let Some(arc) = catalogue.arc_at(k) {
+            join_to(cells, place(arc.from, arc.to, n), arc.label);
         }
     }
 }

@@ -1,21 +1,20 @@
 // Closing by elimination: package by package, every pair is joined with its way through the package.
-ghost use Rattle.std.specs.Prelude.{◌≡◌, ◌*◌, ◌<◌, ◌≤◌, true, length, take, is_ok, slice_index_or, slice_set};
+ghost use Rattle.std.specs.Prelude.{◌≡◌, ◌*◌, ◌<◌, ◌≤◌, true, length, take, is_ok, slice_index_or};
 ghost use Rattle.paths.specs.Tables.{cell, Shows, through, eliminated};
 ghost use Rattle.paths.specs.Closures.{Closure};
 ghost use Rattle.catalogue.specs.Refusals.{answer};
-ghost use Rattle.catalogue.specs.Meanings.{Sound, in_force};
-ghost use Rattle.tables.specs.Tables.{with_ways};
+ghost use Rattle.catalogue.specs.Meanings.{in_force};
+ghost use Rattle.tables.specs.Tables.{Reaches};
 ghost use Rattle.tables.specs.Closings.{labels, elimination_answer, closing_leaves};
 
 use crate::direct::direct;
 use crate::places::area;
-use crate::relax::{leads, relax};
+use crate::relax::{leads, relax_row};
 use catalogue::{Catalogue, Refusal};
 use labels::Label;
 
 // Closes by elimination: for each package k from 0, every pair is joined with its way through k.
 pub fn by_elimination<C: Catalogue>(catalogue: &C, table: &mut [C::Label]) -> Result<(), Refusal>
-    requires { C.Catalogue.valid catalogue.now }
     ensures answers { answer result ≡ elimination_answer C.Label.Label.ops (C.Catalogue.meaning catalogue.now) (length table.old) }
     ensures leaves { table.new ≡ closing_leaves C.Label.Label.ops (C.Catalogue.meaning catalogue.now) (answer result) table.old }
     ensures closure { is_ok (answer result) ≡ true → Closure C.Label.Label.ops (in_force (C.Catalogue.meaning catalogue.now)) (C.Catalogue.meaning catalogue.now).n (take ((C.Catalogue.meaning catalogue.now).n * (C.Catalogue.meaning catalogue.now).n) table.new) }
@@ -24,10 +23,8 @@ pub fn by_elimination<C: Catalogue>(catalogue: &C, table: &mut [C::Label]) -> Re
 }
 
 fn close<C: Catalogue>(catalogue: &C, table: &mut [C::Label]) -> Result<(), Refusal>
-    requires { C.Catalogue.valid catalogue.now }
     ensures answers { answer result ≡ elimination_answer C.Label.Label.ops (C.Catalogue.meaning catalogue.now) (length table.old) }
     ensures leaves { table.new ≡ closing_leaves C.Label.Label.ops (C.Catalogue.meaning catalogue.now) (answer result) table.old }
-    ensures sound { Sound C.Label.Label.ops (C.Catalogue.meaning catalogue.now) }
 {
     let n = catalogue.n() as usize;
     let cells = area(n);
@@ -40,8 +37,6 @@ fn close<C: Catalogue>(catalogue: &C, table: &mut [C::Label]) -> Result<(), Refu
 
 // L(n) into a table of n × n cells.
 fn fill<C: Catalogue>(catalogue: &C, n: usize, cells: &mut [C::Label])
-    requires valid { C.Catalogue.valid catalogue.now }
-    requires sound { Sound C.Label.Label.ops (C.Catalogue.meaning catalogue.now) }
     requires size { n ≡ (C.Catalogue.meaning catalogue.now).n }
     requires square { length cells.old ≡ n * n }
     ensures { cells.new ≡ labels C.Label.Label.ops (C.Catalogue.meaning catalogue.now) }
@@ -61,39 +56,30 @@ fn eliminate<K: Label>(cells: &mut [K], n: usize)
     }
 }
 
-// Every pair is joined with its way through package `k`.
+// Every pair is joined with its way through package `k`: row `k` stays, as no way is better than a part of it.
 fn pass_through<K: Label>(cells: &mut [K], n: usize, k: usize)
     requires square { length cells.old ≡ n * n }
     requires few { n ≤ 1024 }
     requires over { k < n }
     ensures { Shows K.ops n cells.new (through K.ops k (cell K.ops n cells.old)) }
 {
-    for i in 0..n {
-        let first = cells[i * n + k];
+    let (before, rest) = cells.split_at_mut(k * n);
+    let (via, after) = rest.split_at_mut(n);
+    relax_rows(before, via, k);
+    relax_rows(after, via, k);
+}
+
+// Every pair of the rows is joined with its way through package `k`, whose row is `via`.
+fn relax_rows<K: Label>(rows: &mut [K], via: &[K], k: usize)
+    requires over { k < length via.now }
+    requires few { length via.now ≤ 1024 }
+    ensures { Reaches K.ops (length via.now) k (λ j. slice_index_or via.now j K.ops.none) rows.old rows.new }
+{
+    let n = via.len();
+    for i in 0..rows.len() / n {
+        let first = rows[i * n + k];
         if leads(first) {
-            relax_within(cells, n, i, k, first);
+            relax_row(&mut rows[i * n..i * n + n], via, first);
         }
     }
-}
-
-// Row `i` is joined with its ways over `first`, which leads to package `k`, and then row `k`.
-fn relax_within<K: Label>(cells: &mut [K], n: usize, i: usize, k: usize, first: K)
-    requires square { length cells.old ≡ n * n }
-    requires few { n ≤ 1024 }
-    requires into { i < n }
-    requires over { k < n }
-    ensures { Shows K.ops n cells.new (with_ways K.ops first i (cell K.ops n cells.old k) (cell K.ops n cells.old)) }
-{
-    for j in 0..n {
-        relax_cell(cells, i * n + j, first, k * n + j);
-    }
-}
-
-// The cell at `at` is joined with the way over `first` and then the cell at `via`.
-fn relax_cell<K: Label>(cells: &mut [K], at: usize, first: K, via: usize)
-    requires into { at < length cells.old }
-    requires over { via < length cells.old }
-    ensures { cells.new ≡ slice_set cells.old at (K.ops.join (slice_index_or cells.old at K.ops.none) (K.ops.extend first (slice_index_or cells.old via K.ops.none))) }
-{
-    cells[at] = relax(cells[at], first, cells[via]);
 }

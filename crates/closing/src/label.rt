@@ -16,7 +16,6 @@ pub fn label_of<C: Catalogue>(
     from: u32,
     to: u32,
 ) -> Result<C::Label, Refusal>
-    requires { C.Catalogue.valid catalogue.now }
     ensures answers { answer result ≡ label_answer C.Label.Label.ops (C.Catalogue.meaning catalogue.now) (length table.old) from to }
     ensures leaves { table.new ≡ closing_leaves C.Label.Label.ops (C.Catalogue.meaning catalogue.now) (answer result) table.old }
 {

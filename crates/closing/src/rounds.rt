@@ -1,11 +1,11 @@
 // Closing by rounds: each round extends by one arc what the round before it changed.
-ghost use Rattle.std.specs.Prelude.{◌≡◌, ℕ, ◌+◌, ◌*◌, ◌<◌, ◌≤◌, true, false, not, length, take, is_ok, if◌then◌else◌, Ok, slice_index_or, slice_set};
+ghost use Rattle.std.specs.Prelude.{◌≡◌, ℕ, ◌+◌, ◌*◌, ◌<◌, ◌≤◌, true, false, not, length, take, is_ok, if◌then◌else◌, Ok};
 ghost use Rattle.paths.specs.Chains.{L};
 ghost use Rattle.paths.specs.Tables.{cell, Shows, LeastStill, rounds_made};
 ghost use Rattle.paths.specs.Closures.{Closure};
 ghost use Rattle.paths.proofs.Steps.{before};
 ghost use Rattle.catalogue.specs.Refusals.{answer};
-ghost use Rattle.catalogue.specs.Meanings.{Sound, in_force};
+ghost use Rattle.catalogue.specs.Meanings.{in_force};
 ghost use Rattle.tables.specs.Closings.{labels, rounds_answer, closing_leaves};
 ghost use Rattle.tables.specs.Tables.{row, put_row, relaxed};
 ghost use Rattle.tables.specs.Settling.{Settled};
@@ -25,7 +25,6 @@ pub fn by_rounds<C: Catalogue>(
     changed: &mut [C::Label],
     found: &mut [C::Label],
 ) -> Result<usize, Refusal>
-    requires { C.Catalogue.valid catalogue.now }
     ensures answers { answer result ≡ rounds_answer C.Label.Label.ops (C.Catalogue.meaning catalogue.now) (length table.old) (length changed.old) (length found.old) }
     ensures leaves { table.new ≡ closing_leaves C.Label.Label.ops (C.Catalogue.meaning catalogue.now) (answer result) table.old }
     ensures spares { is_ok (answer result) ≡ false → (changed.new ≡ changed.old) × (found.new ≡ found.old) }
@@ -41,11 +40,9 @@ fn close<C: Catalogue>(
     changed: &mut [C::Label],
     found: &mut [C::Label],
 ) -> Result<usize, Refusal>
-    requires { C.Catalogue.valid catalogue.now }
     ensures answers { answer result ≡ rounds_answer C.Label.Label.ops (C.Catalogue.meaning catalogue.now) (length table.old) (length changed.old) (length found.old) }
     ensures leaves { table.new ≡ closing_leaves C.Label.Label.ops (C.Catalogue.meaning catalogue.now) (answer result) table.old }
     ensures spares { is_ok (answer result) ≡ false → (changed.new ≡ changed.old) × (found.new ≡ found.old) }
-    ensures sound { Sound C.Label.Label.ops (C.Catalogue.meaning catalogue.now) }
 {
     let n = catalogue.n() as usize;
     let cells = area(n);
@@ -69,8 +66,6 @@ fn fill<C: Catalogue>(
     changed: &mut [C::Label],
     found: &mut [C::Label],
 ) -> usize
-    requires valid { C.Catalogue.valid catalogue.now }
-    requires sound { Sound C.Label.Label.ops (C.Catalogue.meaning catalogue.now) }
     requires size { n ≡ (C.Catalogue.meaning catalogue.now).n }
     requires square { length cells.old ≡ n * n }
     requires spares { (length changed.old ≡ n * n) × (length found.old ≡ n * n) }
@@ -88,8 +83,6 @@ fn rounds<C: Catalogue>(
     changed: &mut [C::Label],
     found: &mut [C::Label],
 ) -> usize
-    requires valid { C.Catalogue.valid catalogue.now }
-    requires sound { Sound C.Label.Label.ops (C.Catalogue.meaning catalogue.now) }
     requires size { n ≡ (C.Catalogue.meaning catalogue.now).n }
     requires square { length cells.old ≡ n * n }
     requires spares { (length changed.old ≡ n * n) × (length found.old ≡ n * n) }
@@ -125,8 +118,6 @@ fn follow<K: Label>(arc: Arc<K>, n: usize, changed: &[K], found: &mut [K])
 
 // Puts every arc in force before what changed, and joins the ways to what was found.
 fn spread<C: Catalogue>(catalogue: &C, n: usize, changed: &[C::Label], found: &mut [C::Label])
-    requires valid { C.Catalogue.valid catalogue.now }
-    requires sound { Sound C.Label.Label.ops (C.Catalogue.meaning catalogue.now) }
     requires size { n ≡ (C.Catalogue.meaning catalogue.now).n }
     requires changed { length changed.now ≡ n * n }
     requires found { length found.old ≡ n * n }
@@ -134,26 +125,24 @@ fn spread<C: Catalogue>(catalogue: &C, n: usize, changed: &[C::Label], found: &m
 {
     let places = catalogue.stock_len();
     for k in 0..places {
-        match catalogue.arc_at(k) {
-            Some(arc) => follow(arc, n, changed, found),
-            None => {}
+        if let Some(arc) = catalogue.arc_at(k) {
+            follow(arc, n, changed, found);
         }
     }
 }
 
-// Joins to one cell what was found, keeps the new label where it differs, and answers whether it does.
-fn settle_at<K: Label>(cells: &mut [K], changed: &mut [K], found: &mut [K], u: usize) -> bool
-    requires { (u < length cells.old) × ((u < length changed.old) × (u < length found.old)) }
-    ensures joined { cells.new ≡ slice_set cells.old u (K.ops.join (slice_index_or cells.old u K.ops.none) (slice_index_or found.old u K.ops.none)) }
-    ensures told { changed.new ≡ slice_set changed.old u (if result then K.ops.join (slice_index_or cells.old u K.ops.none) (slice_index_or found.old u K.ops.none) else K.ops.none) }
-    ensures clean { found.new ≡ slice_set found.old u K.ops.none }
-    ensures moved { result ≡ not (K.ops.same (K.ops.join (slice_index_or cells.old u K.ops.none) (slice_index_or found.old u K.ops.none)) (slice_index_or cells.old u K.ops.none)) }
+// Joins to a cell what was found, keeps the new label where it differs, and answers whether it does.
+fn settle_cell<K: Label>(cell: &mut K, changed: &mut K, found: &mut K) -> bool
+    ensures joined { cell.new ≡ K.ops.join cell.old found.old }
+    ensures told { changed.new ≡ (if result then K.ops.join cell.old found.old else K.ops.none) }
+    ensures clean { found.new ≡ K.ops.none }
+    ensures moved { result ≡ not (K.ops.same (K.ops.join cell.old found.old) cell.old) }
 {
-    let new = cells[u].join(found[u]);
-    let moved = !new.same(cells[u]);
-    cells[u] = new;
-    changed[u] = if moved { new } else { K::NONE };
-    found[u] = K::NONE;
+    let new = cell.join(*found);
+    let moved = !new.same(*cell);
+    *cell = new;
+    *changed = if moved { new } else { K::NONE };
+    *found = K::NONE;
     moved
 }
 
@@ -164,9 +153,8 @@ fn settle<K: Label>(cells: &mut [K], changed: &mut [K], found: &mut [K]) -> bool
     ensures { Settled K.ops cells.old found.old cells.new changed.new found.new (length cells.old) result }
 {
     let mut moved = false;
-    for u in 0..cells.len() {
-        let here = settle_at(cells, changed, found, u);
-        moved = moved | here;
+    for (u, cell) in cells.iter_mut().enumerate() {
+        moved |= settle_cell(cell, &mut changed[u], &mut found[u]);
     }
     moved
 }

@@ -5,7 +5,7 @@ use Rattle.std.proofs.lemmas.List.{get_or_append_left, get_or-append_right, get_
 use Rattle.std.proofs.lemmas.List.Edits.{get_or-between, length-between}
 use Rattle.std.proofs.lemmas.Nat.{mul-add-lt, mul-le}
 use Rattle.labels.specs.Algebra.{Ops}
-use Rattle.paths.specs.Tables.{cell, Shows}
+use Rattle.paths.specs.Tables.{cell}
 use Rattle.tables.specs.Tables.{row, put_row, relaxed, with_ways}
 
 module _ {M : Type 0} (o : Ops M) (first : M) where
@@ -36,17 +36,17 @@ module _ {M : Type 0} (o : Ops M) (first : M) where
   step (x ∷ row) (y ∷ via) (suc j) d e h k = ap (λ r. o.join x (o.extend first y) ∷ r) (step row via j d e (omega arith) (omega arith))
 
   -- one more column
-  pub relaxed_more : (row via now next : List M) (j : ℕ) → j < length row → length via ≡ length row → now ≡ relaxed o first row (take j via)
-      → next ≡ set now j (o.join (get_or now j o.none) (o.extend first (get_or via j o.none))) → next ≡ relaxed o first row (take (j + 1) via)
-  relaxed_more row via now next j h e at made =
-      made
-      ∙ ap₂ (λ l x. set l j (o.join x (o.extend first (get_or via j o.none)))) at (ap (λ l. get_or l j o.none) at ∙ ahead row via j o.none)
-      ∙ step row via j o.none o.none h (omega arith)
+  pub relaxed_more : (row via now : List M) (j : ℕ) (x y new : M) → j < length row → length via ≡ length row → now ≡ relaxed o first row (take j via)
+      → new ≡ o.join (get_or now j x) (o.extend first y) → y ≡ get_or via j y → set now j new ≡ relaxed o first row (take (j + 1) via)
+  relaxed_more row via now j x y new h e at made read =
+      ap (set now j) (made ∙ ap (λ z. o.join (get_or now j x) (o.extend first z)) read)
+      ∙ ap₂ (λ l z. set l j (o.join z (o.extend first (get_or via j y)))) at (ap (λ l. get_or l j x) at ∙ ahead row via j x)
+      ∙ step row via j x y h (omega arith)
       ∙ ap (λ k. relaxed o first row (take k via)) (sym (add-one j))
 
-module _ {M : Type 0} (o : Ops M) (n : ℕ) (cells new : List M) (f : ℕ) (hf : f < n) (room : n * n ≤ length cells) (fits : length new ≡ n) where
+module _ {M : Type 0} (o : Ops M) (n : ℕ) (cells new : List M) (f : ℕ) (room : f * n + n ≤ length cells) (fits : length new ≡ n) where
   front : length (take (f * n) cells) ≡ f * n
-  front = length-take-le (f * n) cells (omega (arith, mul-le f n n n (omega arith) (omega arith)))
+  front = length-take-le (f * n) cells (omega arith)
 
   -- what is read in that row
   pub cell_written : (j : ℕ) (d : M) → j < n → get_or (put_row n cells f new) (f * n + j) d ≡ get_or new j d
@@ -76,16 +76,16 @@ module _ {M : Type 0} (o : Ops M) (n : ℕ) where
   pub cell_row : (cells : List M) (i j : ℕ) (d : M) → j < n → get_or (row n cells i) j d ≡ get_or cells (i * n + j) d
   cell_row cells i j d hj = get_or-between cells (i * n) (i * n + n) j d (omega arith)
 
-  pub length_row : (cells : List M) (i : ℕ) → i < n → n * n ≤ length cells → length (row n cells i) ≡ n
-  length_row cells i hi room = length-between cells (i * n) (i * n + n) (omega (arith, mul-le (suc i) n n n (omega arith) (omega arith))) ∙ (let e : (i * n + n) - i * n ≡ n = omega arith in e)
+  pub length_row : (cells : List M) (i : ℕ) → i * n + n ≤ length cells → length (row n cells i) ≡ n
+  length_row cells i room = length-between cells (i * n) (i * n + n) room ∙ (let e : (i * n + n) - i * n ≡ n = omega arith in e)
 
   -- row f is relaxed by a row of n labels
-  pub row_relaxed : (first : M) (cells via : List M) (f : ℕ) → f < n → n * n ≤ length cells → length via ≡ n
-      → Shows o n (put_row n cells f (relaxed o first (row n cells f) via)) (with_ways o first f (λ j. get_or via j o.none) (cell o n cells))
-  row_relaxed first cells via f hf room fits i j hi hj = go (ℕ_discrete f i)
+  pub row_relaxed : (first : M) (cells via : List M) (f : ℕ) → f * n + n ≤ length cells → length via ≡ n → (i j : ℕ) → j < n
+      → cell o n (put_row n cells f (relaxed o first (row n cells f) via)) i j ≡ with_ways o first f (λ j. get_or via j o.none) (cell o n cells) i j
+  row_relaxed first cells via f room fits i j hj = go (ℕ_discrete f i)
     where
       wide : length (row n cells f) ≡ n
-      wide = length_row cells f hf room
+      wide = length_row cells f room
 
       long : length (relaxed o first (row n cells f) via) ≡ n
       long = length_relaxed o first (row n cells f) via ∙ wide
@@ -93,10 +93,10 @@ module _ {M : Type 0} (o : Ops M) (n : ℕ) where
       go : Dec (f ≡ i) → cell o n (put_row n cells f (relaxed o first (row n cells f) via)) i j ≡ with_ways o first f (λ j. get_or via j o.none) (cell o n cells) i j
       go (yes e) =
           ap (λ p. cell o n (put_row n cells f (relaxed o first (row n cells f) via)) p j) (sym e)
-          ∙ cell_written o n cells (relaxed o first (row n cells f) via) f hf room long j o.none hj
+          ∙ cell_written o n cells (relaxed o first (row n cells f) via) f room long j o.none hj
           ∙ get_or_relaxed o first (row n cells f) via j (omega (arith, wide)) (fits ∙ sym wide)
           ∙ ap (λ x. o.join x (o.extend first (get_or via j o.none))) (cell_row cells f j o.none hj ∙ ap (λ p. cell o n cells p j) e)
           ∙ sym (ap (λ b. cond b (o.join (cell o n cells i j) (o.extend first (get_or via j o.none))) (cell o n cells i j)) (eq-eqb f i e))
       go (no ne) =
-          cell_beside o n cells (relaxed o first (row n cells f) via) f hf room long i j o.none hj ne
+          cell_beside o n cells (relaxed o first (row n cells f) via) f room long i j o.none hj ne
           ∙ sym (ap (λ b. cond b (o.join (cell o n cells i j) (o.extend first (get_or via j o.none))) (cell o n cells i j)) (ne_eqb f i ne))

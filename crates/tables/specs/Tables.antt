@@ -1,8 +1,9 @@
 -- Rows of a table of n × n labels, which lie one after the other.
-use Rattle.std.specs.Prelude.{ℕ, ◌+◌, ◌*◌, cond, List, [], ◌∷◌, ◌==◌}
+use Rattle.std.specs.Prelude.{◌≡◌, ℕ, ◌+◌, ◌*◌, ◌<◌, ◌≤◌, cond, List, [], ◌∷◌, length, ◌==◌}
 use borrow.Rule.Slice.PartMut.{put_mid}
 use Rattle.std.specs.List.{between}
 use Rattle.labels.specs.Algebra.{Ops}
+use Rattle.paths.specs.Tables.{cell}
 
 -- row i
 abbrev pub row : {M : Type 0} → ℕ → List M → ℕ → List M
@@ -21,3 +22,11 @@ relaxed o first (x ∷ row) (y ∷ via) = o.join x (o.extend first y) ∷ relaxe
 -- the pairs of row i are joined with the ways over `first` and then those of `ways`
 abbrev pub with_ways : {M : Type 0} → Ops M → M → ℕ → (ℕ → M) → (ℕ → ℕ → M) → ℕ → ℕ → M
 with_ways o first i ways T p j = cond (i == p) (o.join (T p j) (o.extend first (ways j))) (T p j)
+
+-- the pairs are joined with the ways over the label in column k and then those of `ways`
+abbrev pub over_column : {M : Type 0} → Ops M → ℕ → (ℕ → M) → (ℕ → ℕ → M) → ℕ → ℕ → M
+over_column o k ways T i j = o.join (T i j) (o.extend (T i k) (ways j))
+
+-- so are those of every whole row
+abbrev pub Reaches : {M : Type 0} → Ops M → ℕ → ℕ → (ℕ → M) → List M → List M → Type 0
+Reaches o n k ways old new = (i j : ℕ) → i * n + n ≤ length old → j < n → cell o n new i j ≡ over_column o k ways (cell o n old) i j

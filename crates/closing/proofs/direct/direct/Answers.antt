@@ -4,7 +4,7 @@ use Rattle.paths.specs.Chains.{L}
 use Rattle.tables.proofs.InForce.{answered_in, along_start, along_none}
 use Rattle.tables.proofs.Singles.{singles_more}
 use Rattle.closing.proofs.direct.direct.Goals as goal
-use Rattle.closing.proofs.direct.direct.Goals.{in-Some, in-None}
+use Rattle.closing.proofs.direct.direct.Goals.{in-Some, in_default}
 
 pub loop-k-init : goal.loop-k-init
 loop-k-init g c =
@@ -15,7 +15,7 @@ loop-k-init g c =
 
 pub place-requires : goal.place-requires
 place-requires g c =
-    let inside = answered_in (g.C.Catalogue.meaning c.args.catalogue.now) g.C.Label.Label.ops c.args.n c.loop-k.k c.in-Some.arc c.requires.sound c.requires.size c.in-Some.ensures in
+    let inside = answered_in (g.C.Catalogue.meaning c.args.catalogue.now) g.C.Label.Label.ops c.args.n c.loop-k.k c.in-Some.arc (g.met.C.Catalogue.sound c.args.catalogue.now) c.requires.size c.in-Some.ensures in
     record { few = inside.few; row = inside.from_in; column = inside.to_in }
 
 pub loop-k-preserved : goal.loop-k-preserved
@@ -26,7 +26,7 @@ loop-k-preserved g c =
     let k = c.loop-k.k in
     let cells = c.loop-k.cells in
     elim c.match-arc_at.branch [
-      | in-Some w ↦ singles_more o g.met.C.Label.Label.laws m n k cells c.loop-k.invariant c.requires.sound c.requires.size (omega (arith, c.loop-k.auto.cells, c.clear.auto.cells, c.requires.square))
+      | in-Some w ↦ singles_more o g.met.C.Label.Label.laws m n k cells c.loop-k.invariant (g.met.C.Catalogue.sound c.args.catalogue.now) c.requires.size (omega (arith, c.loop-k.auto.cells, c.clear.auto.cells, c.requires.square))
           w.in-Some.arc w.in-Some.ensures w.place.result w.place.ensures.is c.match-arc_at.cells w.join_to.new.cells w.cells-is w.join_to.ensures
-      | in-None w ↦ along_none m o n (λ arcs. L o arcs 1) k cells c.match-arc_at.cells c.loop-k.invariant w.in-None.ensures w.cells-is
+      | in_default w ↦ along_none m o n (λ arcs. L o arcs 1) k cells c.match-arc_at.cells c.loop-k.invariant w.in_default.ensures w.cells-is
     ]

@@ -6,6 +6,6 @@ pub returns : goal.returns
 returns g c = record {
   answers = c.close.ensures.answers;
   leaves = c.close.ensures.leaves;
-  closure = closure_left g.C.Label.Label.ops (g.C.Catalogue.meaning c.args.catalogue.now) c.close.ensures.sound g.met.C.Label.Label.laws g.met.C.Label.Label.absorbs
+  closure = closure_left g.C.Label.Label.ops (g.C.Catalogue.meaning c.args.catalogue.now) (g.met.C.Catalogue.sound c.args.catalogue.now) g.met.C.Label.Label.laws g.met.C.Label.Label.absorbs
       (answer c.close.result) c.args.table.now c.close.new.table c.close.ensures.leaves;
 }

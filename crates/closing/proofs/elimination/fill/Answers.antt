@@ -5,6 +5,6 @@ use Rattle.closing.proofs.elimination.fill.Goals as goal
 pub returns : goal.returns
 returns g c =
     let k = g.C.Label.Label in
-    eliminated_is k.ops (g.C.Catalogue.meaning c.args.catalogue.now) c.requires.sound g.met.C.Label.Label.laws g.met.C.Label.Label.absorbs
+    eliminated_is k.ops (g.C.Catalogue.meaning c.args.catalogue.now) (g.met.C.Catalogue.sound c.args.catalogue.now) g.met.C.Label.Label.laws g.met.C.Label.Label.absorbs
     c.args.n c.direct.new.cells c.eliminate.new.cells c.requires.size (c.eliminate.auto.cells ∙ c.direct.auto.cells ∙ c.requires.square)
     c.direct.ensures c.eliminate.ensures

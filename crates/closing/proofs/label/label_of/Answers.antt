@@ -13,10 +13,10 @@ returns-in-Ok g c =
     let new = c.by_elimination.new.table in
     let n = c.n-n in
     record {
-      answers = c.cell.ensures ∙ label_read o m n.ensures.sound n.result c.args.from c.args.to n.ensures.value
+      answers = c.cell.ensures ∙ label_read o m (g.met.C.Catalogue.sound c.args.catalogue.now) n.result c.args.from c.args.to n.ensures
           (sym c.either_outside.ensures ∙ c.if-either_outside.false) old new told.answers told.leaves;
       leaves = left_by o m (Ok c.in-Ok.field-0) (answer c.cell.result) old new
-          (label_ok o m n.ensures.sound n.result c.args.from c.args.to n.ensures.value
+          (label_ok o m (g.met.C.Catalogue.sound c.args.catalogue.now) n.result c.args.from c.args.to n.ensures
           (sym c.either_outside.ensures ∙ c.if-either_outside.false) old new told.answers told.leaves
           (answer c.cell.result) c.cell.ensures)
           told.leaves;

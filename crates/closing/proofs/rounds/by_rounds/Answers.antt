@@ -13,7 +13,7 @@ returns g c =
       answers = told.answers;
       leaves = told.leaves;
       spares = told.spares;
-      closure = closure_left o m told.sound laws.laws laws.absorbs (answer c.close.result) c.args.table.now c.close.new.table told.leaves;
-      least = least_answered o m told.sound laws.laws laws.absorbs laws.exact (answer c.close.result)
+      closure = closure_left o m (g.met.C.Catalogue.sound c.args.catalogue.now) laws.laws laws.absorbs (answer c.close.result) c.args.table.now c.close.new.table told.leaves;
+      least = least_answered o m (g.met.C.Catalogue.sound c.args.catalogue.now) laws.laws laws.absorbs laws.exact (answer c.close.result)
           (length c.args.table.now) (length c.args.changed.now) (length c.args.found.now) told.answers;
     }

@@ -13,9 +13,9 @@ returns-then-not-settle g c =
     let t = c.loop-n in
     let s = c.settle in
     record {
-      table = last_table o met.laws (in_force m) n met.absorbs (in_force_to m o n c.requires.sound c.requires.size) t.made t.cells t.changed t.found c.spread.new.found
+      table = last_table o met.laws (in_force m) n met.absorbs (in_force_to m o n (g.met.C.Catalogue.sound c.args.catalogue.now) c.requires.size) t.made t.cells t.changed t.found c.spread.new.found
           s.new.cells s.new.changed s.new.found s.result t.invariant c.spread.ensures (omega arith) s.ensures c.if-not-settle.true;
-      count = last_count o met.laws (in_force m) n met.absorbs (in_force_to m o n c.requires.sound c.requires.size) t.made t.cells t.changed t.found c.spread.new.found
+      count = last_count o met.laws (in_force m) n met.absorbs (in_force_to m o n (g.met.C.Catalogue.sound c.args.catalogue.now) c.requires.size) t.made t.cells t.changed t.found c.spread.new.found
           s.new.cells s.new.changed s.new.found s.result t.invariant c.spread.ensures (omega arith) s.ensures c.one_more-made.result c.one_more-made.ensures c.if-not-settle.true;
     }
 
@@ -27,5 +27,5 @@ loop-n-preserved g c =
     let n = c.args.n in
     let t = c.loop-n in
     let s = c.settle in
-    turn_more o met.laws (in_force m) n met.absorbs (in_force_to m o n c.requires.sound c.requires.size) t.made t.cells t.changed t.found c.spread.new.found
+    turn_more o met.laws (in_force m) n met.absorbs (in_force_to m o n (g.met.C.Catalogue.sound c.args.catalogue.now) c.requires.size) t.made t.cells t.changed t.found c.spread.new.found
     s.new.cells s.new.changed s.new.found s.result t.invariant c.spread.ensures (omega arith) s.ensures c.one_more-made.result c.one_more-made.ensures c.if-not-settle.false

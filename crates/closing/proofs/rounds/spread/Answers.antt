@@ -4,7 +4,7 @@ use Rattle.paths.proofs.Joins.{none_join}
 use Rattle.tables.proofs.InForce.{answered_in, along_start, along_none}
 use Rattle.tables.proofs.Turns.{led, led_more}
 use Rattle.closing.proofs.rounds.spread.Goals as goal
-use Rattle.closing.proofs.rounds.spread.Goals.{in-Some, in-None}
+use Rattle.closing.proofs.rounds.spread.Goals.{in-Some, in_default}
 
 pub loop-k-init : goal.loop-k-init
 loop-k-init g c =
@@ -16,7 +16,7 @@ loop-k-init g c =
 
 pub follow-requires : goal.follow-requires
 follow-requires g c =
-    let inside = answered_in (g.C.Catalogue.meaning c.args.catalogue.now) g.C.Label.Label.ops c.args.n c.loop-k.k c.in-Some.arc c.requires.sound c.requires.size c.in-Some.ensures in
+    let inside = answered_in (g.C.Catalogue.meaning c.args.catalogue.now) g.C.Label.Label.ops c.args.n c.loop-k.k c.in-Some.arc (g.met.C.Catalogue.sound c.args.catalogue.now) c.requires.size c.in-Some.ensures in
     record { few = inside.few; from = inside.from_in; to = inside.to_in; changed = c.requires.changed; found = omega (arith, c.loop-k.auto.found, c.requires.found) }
 
 pub loop-k-preserved : goal.loop-k-preserved
@@ -29,7 +29,7 @@ loop-k-preserved g c =
     let changed = c.args.changed.now in
     let found = c.loop-k.found in
     elim c.match-arc_at.branch [
-      | in-Some w ↦ led_more o g.met.C.Label.Label.laws m n k S changed found c.loop-k.invariant c.requires.sound c.requires.size c.requires.changed (omega (arith, c.loop-k.auto.found, c.requires.found))
+      | in-Some w ↦ led_more o g.met.C.Label.Label.laws m n k S changed found c.loop-k.invariant (g.met.C.Catalogue.sound c.args.catalogue.now) c.requires.size c.requires.changed (omega (arith, c.loop-k.auto.found, c.requires.found))
           w.in-Some.arc w.in-Some.ensures c.match-arc_at.found w.follow.new.found w.found-is w.follow.ensures
-      | in-None w ↦ along_none m o n (led o S (cell o n changed)) k found c.match-arc_at.found c.loop-k.invariant w.in-None.ensures w.found-is
+      | in_default w ↦ along_none m o n (led o S (cell o n changed)) k found c.match-arc_at.found c.loop-k.invariant w.in_default.ensures w.found-is
     ]
