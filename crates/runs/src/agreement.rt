@@ -21,7 +21,6 @@ pub fn close_both<C: Catalogue>(
     found: &mut [C::Label],
     second: &mut [C::Label],
 ) -> Closings
-    requires { C.Catalogue.valid catalogue.now }
     ensures rounds { answer result.by_rounds ≡ rounds_answer C.Label.Label.ops (C.Catalogue.meaning catalogue.now) (length first.old) (length changed.old) (length found.old) }
     ensures elimination { answer result.by_elimination ≡ elimination_answer C.Label.Label.ops (C.Catalogue.meaning catalogue.now) (length second.old) }
     ensures leaves_first { first.new ≡ closing_leaves C.Label.Label.ops (C.Catalogue.meaning catalogue.now) (answer result.by_rounds) first.old }

@@ -17,8 +17,6 @@ pub fn run<C: Catalogue>(
     changed: &mut [C::Label],
     found: &mut [C::Label],
 )
-    requires { C.Catalogue.valid catalogue.old }
-    ensures stays { C.Catalogue.valid catalogue.new }
     ensures reckoned { C.Catalogue.meaning catalogue.new ≡ reckon C.Label.Label.ops (C.Catalogue.meaning catalogue.old) (alterations calls.now) }
     ensures leaves { table.new ≡ tables C.Label.Label.ops (C.Catalogue.meaning catalogue.old) (lengths table.old changed.old found.old) calls.now table.old }
 {
@@ -35,18 +33,15 @@ pub fn make_call<C: Catalogue>(
     changed: &mut [C::Label],
     found: &mut [C::Label],
 ) -> Result<(), Refusal>
-    requires { C.Catalogue.valid catalogue.old }
-    ensures stays { C.Catalogue.valid catalogue.new }
     ensures answers { answer result ≡ answered C.Label.Label.ops (C.Catalogue.meaning catalogue.old) (lengths table.old changed.old found.old) call }
     ensures reckoned { C.Catalogue.meaning catalogue.new ≡ reckon C.Label.Label.ops (C.Catalogue.meaning catalogue.old) (alterations (call ∷ [])) }
     ensures leaves { table.new ≡ tabled C.Label.Label.ops (C.Catalogue.meaning catalogue.old) (lengths table.old changed.old found.old) call table.old }
 {
     match call {
         Step::Alter(change) => alter(catalogue, change),
-        Step::Rounds(cells) => match rounds_within(catalogue, cells, table, changed, found) {
-            Ok(_) => Ok(()),
-            Err(refusal) => Err(refusal),
-        },
+        Step::Rounds(cells) => {
+            rounds_within(catalogue, cells, table, changed, found).map(|_| ())
+        }
         Step::Eliminate(cells) => eliminate_within(catalogue, cells, table),
     }
 }
@@ -59,7 +54,6 @@ fn rounds_within<C: Catalogue>(
     changed: &mut [C::Label],
     found: &mut [C::Label],
 ) -> Result<usize, Refusal>
-    requires { C.Catalogue.valid catalogue.now }
     ensures answers { answer result ≡ rounds_answer C.Label.Label.ops (C.Catalogue.meaning catalogue.now) (min cells (length table.old)) (min cells (length changed.old)) (min cells (length found.old)) }
     ensures leaves { table.new ≡ closing_leaves C.Label.Label.ops (C.Catalogue.meaning catalogue.now) (answer result) table.old }
 {
@@ -80,7 +74,6 @@ fn eliminate_within<C: Catalogue>(
     cells: usize,
     table: &mut [C::Label],
 ) -> Result<(), Refusal>
-    requires { C.Catalogue.valid catalogue.now }
     ensures answers { answer result ≡ elimination_answer C.Label.Label.ops (C.Catalogue.meaning catalogue.now) (min cells (length table.old)) }
     ensures leaves { table.new ≡ closing_leaves C.Label.Label.ops (C.Catalogue.meaning catalogue.now) (answer result) table.old }
 {

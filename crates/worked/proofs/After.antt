@@ -1,14 +1,11 @@
 -- What is told of the meaning that a run leaves is told of the reckoned one.
-use Rattle.std.proofs.Common.{◌≡◌, ℕ, List, Ok, Result, ap, ◌∙◌, subst, ap₂}
+use Rattle.std.proofs.Common.{◌≡◌, ℕ, List, Result, ap, ◌∙◌, subst, ap₂}
 use Rattle.labels.specs.Algebra.{Ops}
-use Rattle.catalogue.specs.Refusals.{answer, on_ok}
+use Rattle.catalogue.specs.Refusals.{answer}
 use Rattle.catalogue.specs.Meanings.{Meaning}
-use Rattle.catalogue.specs.Runs.{reckon}
 use Rattle.runs.specs.declared.agreement.Closings.{Closings}
-use Rattle.runs.specs.declared.step.Step.{Step}
 use Rattle.tables.specs.Closings.{rounds_answer, elimination_answer, label_answer, closing_leaves, Agree}
-use Rattle.runs.specs.Runs.{Lengths, alterations}
-use Rattle.worked.specs.Asked.{Told, ToldFrom}
+use Rattle.worked.specs.Asked.{Told}
 
 module _ {K : Type 0} (o : Ops K) (now m : Meaning K) (is : now ≡ m) where
   pub told_after : (r : Closings) (a b c a' b' c' second : ℕ) (left left' : List K) → a ≡ a' → b ≡ b' → c ≡ c'
@@ -26,12 +23,3 @@ module _ {K : Type 0} (o : Ops K) (now m : Meaning K) (is : now ≡ m) where
 
   pub label_after_is : (answer : Result K ℕ) (a a' from to : ℕ) → a ≡ a' → answer ≡ label_answer o now a from to → answer ≡ label_answer o m a' from to
   label_after_is answer a a' from to p e = e ∙ ap₂ (λ k x. label_answer o k x from to) is p
-
-module _ {K : Type 0} where
-  -- one layer more
-  pub laid : (over : Meaning K → Meaning K) (made : Result (Meaning K) ℕ) (m top : Meaning K) → Ok m ≡ made → top ≡ over m → Ok top ≡ on_ok over made
-  laid over made m top e f = ap Ok f ∙ ap (on_ok over) e
-
-  pub told_from : (o : Ops K) (made : Result (Meaning K) ℕ) (m : Meaning K) (steps : List (Step K)) (t : Lengths) (second : ℕ) (left left' : List K) (r : Closings)
-      → Ok m ≡ made → Told o (reckon o m (alterations steps)) t second r left left' → ToldFrom o made steps t second left left' (Ok r)
-  told_from o made m steps t second left left' r e told = subst (λ k. ToldFrom o k steps t second left left' (Ok r)) e told

@@ -19,8 +19,6 @@ pub fn close_after<C: Catalogue>(
     found: &mut [C::Label],
     second: &mut [C::Label],
 ) -> Closings
-    requires { C.Catalogue.valid catalogue.old }
-    ensures stays { C.Catalogue.valid catalogue.new }
     ensures answers { Told C.Label.Label.ops (reckon C.Label.Label.ops (C.Catalogue.meaning catalogue.old) (alterations steps.now)) (lengths table.old changed.old found.old) (length second.old) result table.new second.new }
     ensures leaves { table.new ≡ closing_leaves C.Label.Label.ops (reckon C.Label.Label.ops (C.Catalogue.meaning catalogue.old) (alterations steps.now)) (answer result.by_rounds) (tables C.Label.Label.ops (C.Catalogue.meaning catalogue.old) (lengths table.old changed.old found.old) steps.now table.old) }
     ensures leaves_second { second.new ≡ closing_leaves C.Label.Label.ops (reckon C.Label.Label.ops (C.Catalogue.meaning catalogue.old) (alterations steps.now)) (answer result.by_elimination) second.old }
@@ -39,8 +37,6 @@ pub fn label_after<C: Catalogue>(
     from: u32,
     to: u32,
 ) -> Result<C::Label, Refusal>
-    requires { C.Catalogue.valid catalogue.old }
-    ensures stays { C.Catalogue.valid catalogue.new }
     ensures answers { answer result ≡ label_answer C.Label.Label.ops (reckon C.Label.Label.ops (C.Catalogue.meaning catalogue.old) (alterations steps.now)) (length table.old) from to }
     ensures leaves { table.new ≡ closing_leaves C.Label.Label.ops (reckon C.Label.Label.ops (C.Catalogue.meaning catalogue.old) (alterations steps.now)) (answer result) (tables C.Label.Label.ops (C.Catalogue.meaning catalogue.old) (lengths table.old changed.old found.old) steps.now table.old) }
 {

@@ -8,4 +8,6 @@ mod makes;
 
 pub use asking::{close_after, label_after};
 pub use five::label_of_five;
-pub use makes::{close_four_layers, close_ledger, close_sheet, label_in_ledger};
+pub use makes::{
+    close_four_layers, close_ledger, close_made, close_sheet, label_in_ledger, label_made,
+};

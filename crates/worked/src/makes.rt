@@ -6,10 +6,41 @@ ghost use Rattle.runs.specs.Runs.{lengths};
 ghost use Rattle.worked.specs.Asked.{ToldFrom, label_from};
 
 use crate::asking::{close_after, label_after};
-use catalogue::{Blank, Holding, Layer, Ledger, Make, Refusal, Sheet, Turned};
+use catalogue::{Blank, Holding, Ledger, Make, Refusal, Sheet, Turned};
 use labels::Label;
 use paths::Arc;
 use runs::{Closings, Step};
+
+// Makes a catalogue, makes the calls, then closes in both ways.
+pub fn close_made<S, M: Make<S> + Drop>(
+    source: S,
+    steps: &[Step<M::Label>],
+    table: &mut [M::Label],
+    changed: &mut [M::Label],
+    found: &mut [M::Label],
+    second: &mut [M::Label],
+) -> Result<Closings, Refusal>
+    ensures { ToldFrom M.Label.Label.ops (M.Make.first source) steps.now (lengths table.old changed.old found.old) (length second.old) table.new second.new result }
+{
+    let mut made = M::make(source)?;
+    Ok(close_after(&mut made, steps, table, changed, found, second))
+}
+
+// Makes a catalogue, makes the calls, then tells the label of a pair.
+pub fn label_made<S, M: Make<S> + Drop>(
+    source: S,
+    steps: &[Step<M::Label>],
+    table: &mut [M::Label],
+    changed: &mut [M::Label],
+    found: &mut [M::Label],
+    from: u32,
+    to: u32,
+) -> Result<M::Label, Refusal>
+    ensures { answer result ≡ label_from M.Label.Label.ops (M.Make.first source) steps.now (length table.old) from to }
+{
+    let mut made = M::make(source)?;
+    label_after(&mut made, steps, table, changed, found, from, to)
+}
 
 pub fn close_ledger<K: Label>(
     n: u32,
@@ -22,8 +53,7 @@ pub fn close_ledger<K: Label>(
 ) -> Result<Closings, Refusal>
     ensures { ToldFrom K.Label.ops (first_meaning K.Label.ops K.Label.named (ledger_of n (length arcs.old))) steps.now (lengths table.old changed.old found.old) (length second.old) table.new second.new result }
 {
-    let mut ledger = Ledger::make(Blank { n, arcs })?;
-    Ok(close_after(&mut ledger, steps, table, changed, found, second))
+    close_made::<_, Ledger<K>>(Blank { n, arcs }, steps, table, changed, found, second)
 }
 
 pub fn close_sheet<K: Label>(
@@ -36,8 +66,7 @@ pub fn close_sheet<K: Label>(
 ) -> Result<Closings, Refusal>
     ensures { ToldFrom K.Label.ops (first_meaning K.Label.ops K.Label.named (sheet_of bytes.now)) steps.now (lengths table.old changed.old found.old) (length second.old) table.new second.new result }
 {
-    let mut sheet = Sheet::<K>::make(bytes)?;
-    Ok(close_after(&mut sheet, steps, table, changed, found, second))
+    close_made::<_, Sheet<K>>(bytes, steps, table, changed, found, second)
 }
 
 pub fn close_four_layers<K: Label>(
@@ -51,12 +80,14 @@ pub fn close_four_layers<K: Label>(
 ) -> Result<Closings, Refusal>
     ensures { ToldFrom K.Label.ops (first_meaning K.Label.ops K.Label.named (holding_over (turned_over (holding_over (turned_over (ledger_of n (length arcs.old))))))) steps.now (lengths table.old changed.old found.old) (length second.old) table.new second.new result }
 {
-    let ledger = Ledger::make(Blank { n, arcs })?;
-    let turned = Turned::over(ledger);
-    let holding = Holding::over(turned);
-    let again = Turned::over(holding);
-    let mut top = Holding::over(again);
-    Ok(close_after(&mut top, steps, table, changed, found, second))
+    close_made::<_, Holding<Turned<Holding<Turned<Ledger<K>>>>>>(
+        Blank { n, arcs },
+        steps,
+        table,
+        changed,
+        found,
+        second,
+    )
 }
 
 pub fn label_in_ledger<K: Label>(
@@ -71,6 +102,5 @@ pub fn label_in_ledger<K: Label>(
 ) -> Result<K, Refusal>
     ensures { answer result ≡ label_from K.Label.ops (first_meaning K.Label.ops K.Label.named (ledger_of n (length arcs.old))) steps.now (length table.old) from to }
 {
-    let mut ledger = Ledger::make(Blank { n, arcs })?;
-    label_after(&mut ledger, steps, table, changed, found, from, to)
+    label_made::<_, Ledger<K>>(Blank { n, arcs }, steps, table, changed, found, from, to)
 }

@@ -14,11 +14,10 @@ loop-call-preserved g c =
     let told = c.make_call.ensures in
     let kept = c.loop-call.auto in
     let before = c.loop-call in (
-      told.stays,
-      told.reckoned ∙ reckon_more o m calls before.call-index x c.loop-call-test.true c.call-item.is now before.invariant.1,
+      told.reckoned ∙ reckon_more o m calls before.call-index x c.loop-call-test.true c.call-item.is now before.invariant.0,
       told.leaves
           ∙ ap (λ t. tabled o now t x before.table) (same_lengths before.table before.changed before.found c.args.table.now c.args.changed.now c.args.found.now kept.table kept.changed kept.found)
-          ∙ tables_more o m calls before.call-index x c.loop-call-test.true c.call-item.is (lengths c.args.table.now c.args.changed.now c.args.found.now) now c.args.table.now before.table before.invariant.1 before.invariant.2,
+          ∙ tables_more o m calls before.call-index x c.loop-call-test.true c.call-item.is (lengths c.args.table.now c.args.changed.now c.args.found.now) now c.args.table.now before.table before.invariant.0 before.invariant.1,
     )
 
 pub returns : goal.returns
@@ -27,7 +26,6 @@ returns g c =
     let m = g.C.Catalogue.meaning c.args.catalogue.now in
     let all = take_all c.loop-call.call-index c.args.calls.now c.loop-call-test.false in
     record {
-      stays = c.loop-call.invariant.0;
-      reckoned = c.loop-call.invariant.1 ∙ ap (λ cs. reckon o m (alterations cs)) all;
-      leaves = c.loop-call.invariant.2 ∙ ap (λ cs. tables o m (lengths c.args.table.now c.args.changed.now c.args.found.now) cs c.args.table.now) all;
+      reckoned = c.loop-call.invariant.0 ∙ ap (λ cs. reckon o m (alterations cs)) all;
+      leaves = c.loop-call.invariant.1 ∙ ap (λ cs. tables o m (lengths c.args.table.now c.args.changed.now c.args.found.now) cs c.args.table.now) all;
     }

@@ -8,6 +8,5 @@ invariant-loop-call g l =
     let o = g.C.Label.Label.ops in
     let m = g.C.Catalogue.meaning l.initial.catalogue in
     let calls = take l.call-index l.calls in
-    g.C.Catalogue.valid l.catalogue
-    × (g.C.Catalogue.meaning l.catalogue ≡ reckon o m (alterations calls))
+    (g.C.Catalogue.meaning l.catalogue ≡ reckon o m (alterations calls))
     × (l.table ≡ tables o m (lengths l.initial.table l.initial.changed l.initial.found) calls l.initial.table)

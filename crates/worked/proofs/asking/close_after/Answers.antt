@@ -18,7 +18,6 @@ returns g c =
     let r = c.close_both.result in
     let t = lengths c.args.table.now c.args.changed.now c.args.found.now in
     record {
-      stays = ran.stays;
       answers = told_after o now m ran.reckoned r (length c.run.new.table) (length c.run.new.changed) (length c.run.new.found)
           (length c.args.table.now) (length c.args.changed.now) (length c.args.found.now) (length c.args.second.now)
           c.close_both.new.first c.close_both.new.second kept.table kept.changed kept.found told.rounds told.elimination told.agree;

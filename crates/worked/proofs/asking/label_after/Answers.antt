@@ -17,7 +17,6 @@ returns g c =
     let r = answer c.label_of.result in
     let t = lengths c.args.table.now c.args.changed.now c.args.found.now in
     record {
-      stays = ran.stays;
       answers = label_after_is o now m ran.reckoned r (length c.run.new.table) (length c.args.table.now) c.args.from c.args.to c.run.auto.table told.answers;
       leaves = left_after o now m ran.reckoned r c.run.new.table (tables o first t steps c.args.table.now) c.label_of.new.table ran.leaves told.leaves;
     }
