@@ -1,5 +1,4 @@
 pub mod Exact
 pub mod Fields
 pub mod Numbers
-pub mod Pushed
 pub mod Told
