@@ -1,11 +1,13 @@
 -- A line is a command just where it is that command's written form. Assumes nothing.
-use Rattle.std.proofs.Common.{◌≡◌, ℕ, ◌-◌, ◌^◌, ◌<◌, ◌≤◌, true, cond, eqb, ltb, List, [], ◌∷◌, ◌++◌, length, get_or, take, drop, Some, None, decimal, Option, sym, refl, ap, ◌∙◌, subst, arith}
+use Rattle.std.proofs.Common.{◌≡◌, ℕ, ◌-◌, ◌^◌, ◌<◌, ◌≤◌, true, cond, eqb, ltb, List, [], ◌∷◌, ◌++◌, length, get_or, take, drop, Some, None, Ok, decimal, Option, ok_or, sym, refl, ap, ◌∙◌, subst, arith}
 use Rattle.std.proofs.lemmas.Fmt.{length-decimal-le}
 use Rattle.std.proofs.lemmas.List.{length-append, take_rest}
 use Rattle.std.proofs.lemmas.Bool.{and_from, and_parts, cond_both, cond-true, eqb-true, lt-ltb, ltb-true}
+use Rattle.catalogue.specs.Refusals.{answer}
+use Rattle.catalogue.specs.declared.refusal.Refusal.TheVariants.{NotCommand}
 use Rattle.console.specs.declared.command.Command.{Command}
 use Rattle.console.specs.declared.command.Command.TheVariants.{Size, Admit, Withdraw, Hold, Lift}
-use Rattle.console.specs.Grammar.{Reads, Fits, admit_of, by_letter, command_of, field, number_of, opened, three_of, two_of, with, written}
+use Rattle.console.specs.Grammar.{Exactly, Fits, admit_of, by_letter, command_of, field, number_of, opened, or_16, three_of, two_of, with, written}
 use Rattle.console.proofs.Fields.{three_all, three_some, two_all, two_some, with_some}
 use Rattle.console.proofs.Numbers.{no_some, number_all, number_some, same_some}
 
@@ -73,10 +75,16 @@ command_all (Withdraw f t) fits = opening 119 (decimal f ++ field t) ∙ ap (λ 
 command_all (Hold p) fits = opening 104 (decimal p) ∙ ap (λ o. with o (λ n. Some (Hold n))) (number_all p fits)
 command_all (Lift p) fits = opening 108 (decimal p) ∙ ap (λ o. with o (λ n. Some (Lift n))) (number_all p fits)
 
-pub exactly : (line : List ℕ) (r : Option Command) → r ≡ command_of line → Reads line r
-exactly line r e = record {
-  some = λ c is. command_some line c (sym e ∙ is);
-  all = λ c fits form. e ∙ ap command_of form ∙ command_all c fits;
+pub exactly : (line : List ℕ) (o : Option Command) → o ≡ command_of line → Exactly line (ok_or o NotCommand)
+exactly line (Some c) e = record {
+  taken = λ d is. let same : c ≡ d = cc in command_some line d (sym e ∙ ap Some same);
+  all = λ d fits form. ap Ok (same_some c d (e ∙ ap command_of form ∙ command_all d fits));
+  other = λ none. let k = command_some line c (sym e) in absurd (none c k.1 k.0);
+}
+exactly line None e = record {
+  taken = λ d is. let z : ◌≡◌ {A = ℕ} 0 1 = cc in absurd (omega arith);
+  all = λ d fits form. absurd (no_some d (e ∙ ap command_of form ∙ command_all d fits));
+  other = λ none. refl;
 }
 
 -- a number below 2 ^ 32 has at most ten digits
@@ -100,5 +108,9 @@ long_none line long =
     let is = command_some line c e in
     omega (arith, ap length is.0, written_le c is.1))
 
-pub cut_same : (line rest : List ℕ) (r : Option Command) → r ≡ command_of line → length line ≡ 65 → command_of (line ++ rest) ≡ r
-cut_same line rest r e size = long_none (line ++ rest) (omega (arith, length-append line rest)) ∙ sym (e ∙ long_none line (omega arith))
+pub cut_same : (line rest : List ℕ) → length line ≡ 65 → command_of (line ++ rest) ≡ command_of line
+cut_same line rest size = long_none (line ++ rest) (omega (arith, length-append line rest)) ∙ sym (long_none line (omega arith))
+
+pub answered : (o : Option Command) → answer (ok_or o NotCommand) ≡ or_16 o
+answered None = refl
+answered (Some c) = refl

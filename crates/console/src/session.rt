@@ -1,6 +1,5 @@
 // What a line does: it sets n, or makes a call on the catalogue.
 ghost use Rattle.std.specs.Prelude.{◌≡◌};
-ghost use Rattle.labels.specs.Kinds.{minutes_of};
 ghost use Rattle.catalogue.specs.Refusals.{answer};
 ghost use Rattle.console.specs.Sessions.{opening, sets, call_of, executed, left, obeyed, after};
 
@@ -16,10 +15,7 @@ const MOST_PACKAGES: u32 = 64;
 pub fn open_with(line: &[u8]) -> Result<u32, Refusal>
     ensures { answer result ≡ opening line.now }
 {
-    match parse(line) {
-        Ok(command) => size(command),
-        Err(refusal) => Err(refusal),
-    }
+    size(parse(line)?)
 }
 
 // Does what a line says, once n is set.
@@ -29,10 +25,7 @@ pub fn obey<C: Catalogue<Label = Minutes>>(catalogue: &mut C, line: &[u8]) -> Re
     ensures answers { answer result ≡ obeyed (C.Catalogue.meaning catalogue.old) line.now }
     ensures leaves { C.Catalogue.meaning catalogue.new ≡ after (C.Catalogue.meaning catalogue.old) line.now }
 {
-    match parse(line) {
-        Ok(command) => execute(catalogue, command),
-        Err(refusal) => Err(refusal),
-    }
+    execute(catalogue, parse(line)?)
 }
 
 // The n that a command sets.
@@ -40,12 +33,8 @@ pub fn size(command: Command) -> Result<u32, Refusal>
     ensures { answer result ≡ sets command }
 {
     match command {
-        Command::Size(n) => {
-            if n == 0 || n > MOST_PACKAGES {
-                return Err(Refusal::BadCount);
-            }
-            Ok(n)
-        }
+        Command::Size(n) if (1..=MOST_PACKAGES).contains(&n) => Ok(n),
+        Command::Size(_) => Err(Refusal::BadCount),
         _ => Err(Refusal::NotCommand),
     }
 }
@@ -60,10 +49,7 @@ pub fn execute<C: Catalogue<Label = Minutes>>(
     ensures answers { answer result ≡ executed (C.Catalogue.meaning catalogue.old) command }
     ensures leaves { C.Catalogue.meaning catalogue.new ≡ left (C.Catalogue.meaning catalogue.old) command }
 {
-    match call(command) {
-        Some(call) => make_call(catalogue, call),
-        None => Err(Refusal::NotCommand),
-    }
+    make_call(catalogue, call(command).ok_or(Refusal::NotCommand)?)
 }
 
 // The call that a command asks for.
@@ -72,15 +58,9 @@ fn call(command: Command) -> Option<Call<Minutes>>
 {
     match command {
         Command::Size(_) => None,
-        Command::Admit(from, to, value) => Some(Call::Admit(from, to, minutes(value))),
+        Command::Admit(from, to, value) => Some(Call::Admit(from, to, Minutes { value })),
         Command::Withdraw(from, to) => Some(Call::Withdraw(from, to)),
         Command::Hold(p) => Some(Call::Hold(p)),
         Command::Lift(p) => Some(Call::Lift(p)),
     }
-}
-
-fn minutes(value: u32) -> Minutes
-    ensures { result ≡ minutes_of value }
-{
-    Minutes { value }
 }
