@@ -1,13 +1,15 @@
 // Standard input, line by line, in bounded memory.
+use arrayvec::{ArrayVec, IntoIter};
 use console::buffer::LineBuffer;
 use std::io::{Read, Stdin};
+
+// The most bytes that are read at once.
+const CHUNK: usize = 4096;
 
 #[derive(Drop)]
 pub struct Input {
     source: Stdin,
-    chunk: [u8; 4096],
-    at: usize,
-    len: usize,
+    chunk: IntoIter<u8, CHUNK>,
     line: LineBuffer,
 }
 
@@ -15,42 +17,42 @@ impl Input {
     pub fn new(source: Stdin) -> Input {
         Input {
             source,
-            chunk: [0; 4096],
-            at: 0,
-            len: 0,
+            chunk: ArrayVec::new().into_iter(),
             line: LineBuffer::new(),
         }
     }
 
-    // The line that was read last, or its first 65 bytes.
-    pub fn line(&self) -> &[u8] {
-        self.line.line()
-    }
-
-    // Reads the next line. False at the end: nothing after the last line feed is no line.
-    pub fn next_line(&mut self) -> bool {
+    // The next line, or its first 65 bytes. Nothing at the end: what stands after the last line feed
+    // is no line if it is empty.
+    pub fn next_line(&mut self) -> Option<&[u8]> {
         self.line.clear();
         for _ in 0..u64::MAX {
             match self.next_byte() {
-                Some(b'\n') => return true,
+                Some(b'\n') => return Some(self.line.line()),
                 Some(byte) => self.line.push(byte),
                 None => break,
             }
         }
-        !self.line.is_empty()
+        if self.line.is_empty() {
+            None
+        } else {
+            Some(self.line.line())
+        }
     }
 
     // The next byte; nothing at the end, or where reading fails.
     fn next_byte(&mut self) -> Option<u8> {
-        if self.at >= self.len {
-            self.at = 0;
-            self.len = self.source.read(&mut self.chunk).unwrap_or(0);
+        if self.chunk.len() == 0 {
+            self.chunk = self.next_chunk();
         }
-        if self.at >= self.len {
-            return None;
-        }
-        let byte = self.chunk.get(self.at).copied();
-        self.at += 1;
-        byte
+        self.chunk.next()
+    }
+
+    fn next_chunk(&mut self) -> IntoIter<u8, CHUNK> {
+        let mut bytes = [0; CHUNK];
+        let len = self.source.read(&mut bytes).unwrap_or(0);
+        let mut chunk = ArrayVec::from(bytes);
+        chunk.truncate(len);
+        chunk.into_iter()
     }
 }

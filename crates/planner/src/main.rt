@@ -37,10 +37,10 @@ fn main(rt: HostRuntime) -> io::Result<()> {
 // Answers lines until one sets n; nothing where the input ends before that.
 fn first_size(rt: &HostRuntime, input: &mut Input) -> io::Result<Option<u32>> {
     for _ in 0..u64::MAX {
-        if !input.next_line() {
+        let Some(line) = input.next_line() else {
             break;
-        }
-        match open_with(input.line()) {
+        };
+        match open_with(line) {
             Ok(n) => return Ok(Some(n)),
             Err(refusal) => tell(rt, Err(refusal))?,
         }
@@ -57,10 +57,10 @@ fn serve<C: Catalogue<Label = Minutes>>(
     requires { C.Catalogue.valid catalogue.old }
 {
     for _ in 0..u64::MAX {
-        if !input.next_line() {
+        let Some(line) = input.next_line() else {
             break;
-        }
-        tell(rt, obey(catalogue, input.line()))?;
+        };
+        tell(rt, obey(catalogue, line))?;
     }
     Ok(())
 }
@@ -68,9 +68,6 @@ fn serve<C: Catalogue<Label = Minutes>>(
 fn tell(rt: &HostRuntime, answer: Result<(), Refusal>) -> io::Result<()> {
     match answer {
         Ok(()) => println!(rt; "ok"),
-        Err(refusal) => {
-            let number = refusal.number();
-            println!(rt; "refused {number}")
-        }
+        Err(refusal) => println!(rt; "refused {}", refusal.number()),
     }
 }
