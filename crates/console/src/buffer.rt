@@ -1,5 +1,5 @@
 // A line as it comes in. Only its first 65 bytes are kept: they tell what the line is.
-ghost use Rattle.std.specs.Prelude.{◌≡◌, ◌≤◌, [], ◌∷◌, ◌++◌, length, take, ◌==◌};
+ghost use Rattle.std.specs.Prelude.{◌≡◌, ◌<◌, ◌≤◌, [], ◌∷◌, ◌++◌, length, take, ◌==◌};
 ghost use Rattle.arrayvec.specs.ArrayVec.{array_vec_len};
 
 use arrayvec::ArrayVec;
@@ -25,8 +25,15 @@ impl LineBuffer {
         ensures { content self.new ≡ take 65 (content self.old ++ (byte ∷ [])) }
     {
         if !self.bytes.is_full() {
-            self.bytes.push(byte);
+            self.put(byte);
         }
+    }
+
+    fn put(&mut self, byte: u8)
+        requires { length (content self.old) < 65 }
+        ensures { content self.new ≡ content self.old ++ (byte ∷ []) }
+    {
+        self.bytes.push(byte);
     }
 
     pub fn clear(&mut self)

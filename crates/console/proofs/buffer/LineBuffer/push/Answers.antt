@@ -1,12 +1,12 @@
-use Rattle.std.proofs.Common.{sym, ◌∷◌, [], ◌++◌, ◌∙◌, length, arith}
+use Rattle.std.proofs.Common.{sym, ap, ◌∷◌, [], ◌++◌, ◌∙◌, length, arith}
 use Rattle.std.proofs.lemmas.Bool.{eqb-true}
-use Rattle.std.proofs.lemmas.List.{take_all, take-append-le, length_push}
+use Rattle.std.proofs.lemmas.List.{take_all, take-append-le}
 use Rattle.console.proofs.buffer.LineBuffer.push.Goals as goal
 
 pub returns-then-not-is_full : goal.returns-then-not-is_full
 returns-then-not-is_full c =
     let xs = c.args.self.now.bytes.items in
-    c.push.ensures.items ∙ sym (take_all 65 (xs ++ (c.args.byte ∷ [])) (omega (arith, length_push xs c.args.byte)))
+    c.put.ensures ∙ sym (take_all 65 (xs ++ (c.args.byte ∷ [])) (omega (arith, ap length c.put.ensures)))
 
 pub returns-else-not-is_full : goal.returns-else-not-is_full
 returns-else-not-is_full c =
