@@ -1,5 +1,5 @@
 // What a line does: it sets n, or makes a call on the catalogue.
-ghost use Rattle.std.specs.Prelude.{◌≡◌};
+ghost use Rattle.std.specs.Prelude.{◌≡◌, ok_or};
 ghost use Rattle.catalogue.specs.Refusals.{answer};
 ghost use Rattle.console.specs.Sessions.{opening, sets, call_of, executed, left, obeyed, after};
 
@@ -49,18 +49,24 @@ pub fn execute<C: Catalogue<Label = Minutes>>(
     ensures answers { answer result ≡ executed (C.Catalogue.meaning catalogue.old) command }
     ensures leaves { C.Catalogue.meaning catalogue.new ≡ left (C.Catalogue.meaning catalogue.old) command }
 {
-    make_call(catalogue, call(command).ok_or(Refusal::NotCommand)?)
+    make_call(catalogue, Call::try_from(command)?)
 }
 
-// The call that a command asks for.
-fn call(command: Command) -> Option<Call<Minutes>>
-    ensures { result ≡ call_of command }
-{
-    match command {
-        Command::Size(_) => None,
-        Command::Admit(from, to, value) => Some(Call::Admit(from, to, Minutes { value })),
-        Command::Withdraw(from, to) => Some(Call::Withdraw(from, to)),
-        Command::Hold(p) => Some(Call::Hold(p)),
-        Command::Lift(p) => Some(Call::Lift(p)),
+// The call that a command asks for; to set n is none.
+impl TryFrom<Command> for Call<Minutes> {
+    ghost use Rattle.catalogue.specs.declared.refusal.Refusal.TheVariants.{NotCommand};
+
+    type Error = Refusal;
+
+    ghost try_from_gives = { λ command result. result ≡ ok_or (call_of command) NotCommand };
+
+    fn try_from(command: Command) -> Result<Self, Refusal> {
+        match command {
+            Command::Size(_) => Err(Refusal::NotCommand),
+            Command::Admit(from, to, value) => Ok(Call::Admit(from, to, Minutes { value })),
+            Command::Withdraw(from, to) => Ok(Call::Withdraw(from, to)),
+            Command::Hold(p) => Ok(Call::Hold(p)),
+            Command::Lift(p) => Ok(Call::Lift(p)),
+        }
     }
 }

@@ -1,9 +1,0 @@
-use Rattle.std.proofs.Common.{Some, ap, sym, ◌∙◌, arith}
-use Rattle.labels.specs.Alike.{minutes_same, sum_is_min}
-use Rattle.catalogue.specs.declared.call.Call.TheVariants.{Admit}
-use Rattle.console.proofs.session.call.Goals as goal
-
-pub returns-in-Admit : goal.returns-in-Admit
-returns-in-Admit c =
-    let a = c.in-Admit in
-    rw a.is (ap (λ m. Some (Admit a.from a.to m)) (minutes_same (sym (sum_is_min a.value ∙ omega arith))))
