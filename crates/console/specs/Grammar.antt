@@ -90,11 +90,6 @@ Fits (Withdraw f t) = (f < 2 ^ 32) × (t < 2 ^ 32)
 Fits (Hold p) = p < 2 ^ 32
 Fits (Lift p) = p < 2 ^ 32
 
--- o is the command whose written form the line is, and None where it is that of none
-pub record Reads (line : List ℕ) (o : Option Command) : Type 0 where
-  pub some : (c : Command) → o ≡ Some c → (line ≡ written c) × Fits c
-  pub all : (c : Command) → Fits c → line ≡ written c → o ≡ Some c
-
 -- what a line is: its command, or 16
 abbrev pub or_16 : Option Command → Result Command ℕ
 or_16 None = Err 16

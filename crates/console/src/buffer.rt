@@ -11,6 +11,7 @@ pub struct LineBuffer {
 }
 
 impl LineBuffer {
+    // Not at the head of the file, since the struct's ghost field reads what stands there.
     ghost use Rattle.console.specs.Content.{content};
 
     pub fn new() -> LineBuffer
@@ -29,6 +30,7 @@ impl LineBuffer {
         }
     }
 
+    // There is room.
     fn put(&mut self, byte: u8)
         requires { length (content self.old) < 65 }
         ensures { content self.new ≡ content self.old ++ (byte ∷ []) }

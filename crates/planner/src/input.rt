@@ -6,53 +6,63 @@ use std::io::{Read, Stdin};
 // The most bytes that are read at once.
 const CHUNK: usize = 4096;
 
+// The bytes of standard input. Where reading fails, the input has ended.
 #[derive(Drop)]
-pub struct Input {
+struct Bytes {
     source: Stdin,
     chunk: IntoIter<u8, CHUNK>,
-    line: LineBuffer,
 }
 
-impl Input {
-    pub fn new(source: Stdin) -> Input {
-        Input {
-            source,
-            chunk: ArrayVec::new().into_iter(),
-            line: LineBuffer::new(),
-        }
-    }
-
-    // The next line, or its first 65 bytes. Nothing at the end: what stands after the last line feed
-    // is no line if it is empty.
-    pub fn next_line(&mut self) -> Option<&[u8]> {
-        self.line.clear();
-        for _ in 0..u64::MAX {
-            match self.next_byte() {
-                Some(b'\n') => return Some(self.line.line()),
-                Some(byte) => self.line.push(byte),
-                None => break,
-            }
-        }
-        if self.line.is_empty() {
-            None
-        } else {
-            Some(self.line.line())
-        }
-    }
-
-    // The next byte; nothing at the end, or where reading fails.
-    fn next_byte(&mut self) -> Option<u8> {
-        if self.chunk.len() == 0 {
-            self.chunk = self.next_chunk();
-        }
-        self.chunk.next()
-    }
-
+impl Bytes {
     fn next_chunk(&mut self) -> IntoIter<u8, CHUNK> {
         let mut bytes = [0; CHUNK];
         let len = self.source.read(&mut bytes).unwrap_or(0);
         let mut chunk = ArrayVec::from(bytes);
         chunk.truncate(len);
         chunk.into_iter()
+    }
+}
+
+impl Iterator for Bytes {
+    type Item = u8;
+
+    fn next(&mut self) -> Option<u8> {
+        if self.chunk.len() == 0 {
+            self.chunk = self.next_chunk();
+        }
+        self.chunk.next()
+    }
+}
+
+// Its lines. What stands after the last line feed is a line if it is not empty. No proof knows that
+// they end, so a loop over them takes a number of them.
+#[derive(Drop)]
+pub struct Input {
+    bytes: Bytes,
+}
+
+impl Input {
+    pub fn new(source: Stdin) -> Input {
+        Input {
+            bytes: Bytes {
+                source,
+                chunk: ArrayVec::new().into_iter(),
+            },
+        }
+    }
+}
+
+impl Iterator for Input {
+    type Item = LineBuffer;
+
+    fn next(&mut self) -> Option<LineBuffer> {
+        let mut line = LineBuffer::new();
+        for byte in self.bytes.by_ref().take(usize::MAX) {
+            if byte == b'\n' {
+                return Some(line);
+            }
+            line.push(byte);
+        }
+        (!line.is_empty()).then_some(line)
     }
 }

@@ -14,11 +14,10 @@ use std::io;
 const PLACES: usize = 512;
 
 fn main(rt: HostRuntime) -> io::Result<()> {
-    let label = Minutes::NONE.label();
     let mut arcs = [Arc {
         from: 0,
         to: 0,
-        label,
+        label: Minutes::NONE.label(),
     }; PLACES];
     let mut input = Input::new(rt.stdin());
     let Some(n) = first_size(&rt, &mut input)? else {
@@ -36,11 +35,8 @@ fn main(rt: HostRuntime) -> io::Result<()> {
 
 // Answers lines until one sets n; nothing where the input ends before that.
 fn first_size(rt: &HostRuntime, input: &mut Input) -> io::Result<Option<u32>> {
-    for _ in 0..u64::MAX {
-        let Some(line) = input.next_line() else {
-            break;
-        };
-        match open_with(line) {
+    for line in input.by_ref().take(usize::MAX) {
+        match open_with(line.line()) {
             Ok(n) => return Ok(Some(n)),
             Err(refusal) => tell(rt, Err(refusal))?,
         }
@@ -56,11 +52,8 @@ fn serve<C: Catalogue<Label = Minutes>>(
 ) -> io::Result<()>
     requires { C.Catalogue.valid catalogue.old }
 {
-    for _ in 0..u64::MAX {
-        let Some(line) = input.next_line() else {
-            break;
-        };
-        tell(rt, obey(catalogue, line))?;
+    for line in input.by_ref().take(usize::MAX) {
+        tell(rt, obey(catalogue, line.line()))?;
     }
     Ok(())
 }
