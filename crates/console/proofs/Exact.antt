@@ -1,13 +1,16 @@
 -- A line is a command just where it is that command's written form. Assumes nothing.
-use Rattle.std.proofs.Common.{◌≡◌, ℕ, ◌-◌, ◌^◌, ◌<◌, ◌≤◌, true, cond, eqb, ltb, List, [], ◌∷◌, ◌++◌, length, get_or, take, drop, Some, None, decimal, Option, sym, refl, ap, ◌∙◌, subst, arith}
+use Rattle.std.proofs.Common.{◌≡◌, ℕ, ◌-◌, ◌^◌, ◌<◌, ◌≤◌, true, cond, eqb, ltb, List, [], ◌∷◌, ◌++◌, length, get_or, take, drop, Some, None, Ok, decimal, Option, ok_or, sym, refl, ap, ◌∙◌, subst, arith}
 use Rattle.std.proofs.lemmas.Fmt.{length-decimal-le}
 use Rattle.std.proofs.lemmas.List.{length-append, take_rest}
+use Rattle.std.proofs.lemmas.Option.{none-some, same_Some}
 use Rattle.std.proofs.lemmas.Bool.{and_from, and_parts, cond_both, cond-true, eqb-true, lt-ltb, ltb-true}
+use Rattle.catalogue.specs.Refusals.{answer}
+use Rattle.catalogue.specs.declared.refusal.Refusal.TheVariants.{NotCommand}
 use Rattle.console.specs.declared.command.Command.{Command}
 use Rattle.console.specs.declared.command.Command.TheVariants.{Size, Admit, Withdraw, Hold, Lift}
-use Rattle.console.specs.Grammar.{Reads, Fits, admit_of, by_letter, command_of, field, number_of, opened, three_of, two_of, with, written}
+use Rattle.console.specs.Grammar.{Exactly, Fits, admit_of, by_letter, command_of, field, number_of, opened, or_16, three_of, two_of, with, written}
 use Rattle.console.proofs.Fields.{three_all, three_some, two_all, two_some, with_some}
-use Rattle.console.proofs.Numbers.{no_some, number_all, number_some, same_some}
+use Rattle.console.proofs.Numbers.{number_all, number_some}
 
 abbrev Says : ℕ → List ℕ → Command → Type 0
 Says l bs c = (l ∷ (32 ∷ bs) ≡ written c) × Fits c
@@ -16,19 +19,19 @@ one_some : (make : ℕ → Command) (l : ℕ) → ((p : ℕ) → written (make p
 one_some make l form fits bs c e =
     let w = with_some (number_of bs) (λ p. Some (make p)) c e in
     let n = number_some bs w.0 w.1 in
-    subst (Says l bs) (same_some (make w.0) c w.2) (ap (λ ys. l ∷ (32 ∷ ys)) n.0 ∙ sym (form w.0), fits w.0 n.1)
+    subst (Says l bs) (same_Some (make w.0) c w.2) (ap (λ ys. l ∷ (32 ∷ ys)) n.0 ∙ sym (form w.0), fits w.0 n.1)
 
 pair_some : (make : ℕ → ℕ → Command) (l : ℕ) → ((f t : ℕ) → written (make f t) ≡ l ∷ (field f ++ field t)) → ((f t : ℕ) → f < 2 ^ 32 → t < 2 ^ 32 → Fits (make f t)) → (bs : List ℕ) (c : Command) → with (two_of bs) (λ t. Some (make t.0 t.1)) ≡ Some c → Says l bs c
 pair_some make l form fits bs c e =
     let w = with_some (two_of bs) (λ t. Some (make t.0 t.1)) c e in
     let n = two_some bs w.0 w.1 in
-    subst (Says l bs) (same_some (make w.0.0 w.0.1) c w.2) (ap (λ ys. l ∷ (32 ∷ ys)) n.0 ∙ sym (form w.0.0 w.0.1), fits w.0.0 w.0.1 n.1.0 n.1.1)
+    subst (Says l bs) (same_Some (make w.0.0 w.0.1) c w.2) (ap (λ ys. l ∷ (32 ∷ ys)) n.0 ∙ sym (form w.0.0 w.0.1), fits w.0.0 w.0.1 n.1.0 n.1.1)
 
 admit_some : (bs : List ℕ) (c : Command) → admit_of bs ≡ Some c → Says 97 bs c
 admit_some bs c e =
     let w = with_some (three_of bs) (λ t. Some (Admit t.0 t.1 t.2)) c e in
     let n = three_some bs w.0 w.1 in
-    subst (Says 97 bs) (same_some (Admit w.0.0 w.0.1 w.0.2) c w.2) (ap (λ ys. 97 ∷ (32 ∷ ys)) n.0, n.1)
+    subst (Says 97 bs) (same_Some (Admit w.0.0 w.0.1 w.0.2) c w.2) (ap (λ ys. 97 ∷ (32 ∷ ys)) n.0, n.1)
 
 -- one letter: what its command says, and else what the other letters say
 by_one : (l k : ℕ) (bs : List ℕ) (c : Command) (o p : Option Command) → (o ≡ Some c → Says k bs c) → (p ≡ Some c → Says l bs c) → cond (eqb l k) o p ≡ Some c → Says l bs c
@@ -42,7 +45,7 @@ by_letter_some l bs c =
     (by_one l 119 bs c _ _ (pair_some (λ f t. Withdraw f t) 119 (λ f t. refl) (λ f t h k. (h, k)) bs c)
     (by_one l 104 bs c _ _ (one_some (λ p. Hold p) 104 (λ p. refl) (λ p h. h) bs c)
     (by_one l 108 bs c _ _ (one_some (λ p. Lift p) 108 (λ p. refl) (λ p h. h) bs c)
-    (λ e. absurd (no_some c e))))))
+    (λ e. absurd (none-some c e))))))
 
 pub opened_long : (line : List ℕ) → opened line ≡ true → 1 < length line
 opened_long line e = ltb-true 1 (length line) (and_parts (ltb 1 (length line)) (eqb (get_or line 1 0) 32) e).0
@@ -61,7 +64,7 @@ command_some line c =
     (λ open-line e.
     let says = by_letter_some (get_or line 0 0) (drop 2 line) c e in
     (taken_apart line open-line ∙ says.0, says.1))
-    (λ _ e. absurd (no_some c e))
+    (λ _ e. absurd (none-some c e))
 
 opening : (l : ℕ) (bs : List ℕ) → command_of (l ∷ (32 ∷ bs)) ≡ by_letter l bs
 opening l bs = cond-true (opened (l ∷ (32 ∷ bs))) _ _ (and_from _ _ (lt-ltb 1 (length (l ∷ (32 ∷ bs))) (omega arith)) refl)
@@ -73,10 +76,16 @@ command_all (Withdraw f t) fits = opening 119 (decimal f ++ field t) ∙ ap (λ 
 command_all (Hold p) fits = opening 104 (decimal p) ∙ ap (λ o. with o (λ n. Some (Hold n))) (number_all p fits)
 command_all (Lift p) fits = opening 108 (decimal p) ∙ ap (λ o. with o (λ n. Some (Lift n))) (number_all p fits)
 
-pub exactly : (line : List ℕ) (r : Option Command) → r ≡ command_of line → Reads line r
-exactly line r e = record {
-  some = λ c is. command_some line c (sym e ∙ is);
-  all = λ c fits form. e ∙ ap command_of form ∙ command_all c fits;
+pub exactly : (line : List ℕ) (o : Option Command) → o ≡ command_of line → Exactly line (ok_or o NotCommand)
+exactly line (Some c) e = record {
+  taken = λ d is. let same : c ≡ d = cc in command_some line d (sym e ∙ ap Some same);
+  all = λ d fits form. ap Ok (same_Some c d (e ∙ ap command_of form ∙ command_all d fits));
+  other = λ none. let k = command_some line c (sym e) in absurd (none c k.1 k.0);
+}
+exactly line None e = record {
+  taken = λ d is. let z : ◌≡◌ {A = ℕ} 0 1 = cc in absurd (omega arith);
+  all = λ d fits form. absurd (none-some d (e ∙ ap command_of form ∙ command_all d fits));
+  other = λ none. refl;
 }
 
 -- a number below 2 ^ 32 has at most ten digits
@@ -100,5 +109,9 @@ long_none line long =
     let is = command_some line c e in
     omega (arith, ap length is.0, written_le c is.1))
 
-pub cut_same : (line rest : List ℕ) (r : Option Command) → r ≡ command_of line → length line ≡ 65 → command_of (line ++ rest) ≡ r
-cut_same line rest r e size = long_none (line ++ rest) (omega (arith, length-append line rest)) ∙ sym (e ∙ long_none line (omega arith))
+pub cut_same : (line rest : List ℕ) → length line ≡ 65 → command_of (line ++ rest) ≡ command_of line
+cut_same line rest size = long_none (line ++ rest) (omega (arith, length-append line rest)) ∙ sym (long_none line (omega arith))
+
+pub answered : (o : Option Command) → answer (ok_or o NotCommand) ≡ or_16 o
+answered None = refl
+answered (Some c) = refl

@@ -1,31 +1,45 @@
 -- Fields are parted at the first space, and numbers hold none. Assumes nothing.
-use Rattle.std.proofs.Common.{◌≡◌, ℕ, zero, suc, ◌+◌, ◌-◌, ◌^◌, ◌<◌, ◌≤◌, eqb, List, [], ◌∷◌, ◌++◌, length, get_or, take, drop, Some, None, decimal, Option, sym, refl, ap, ◌∙◌, subst, arith}
+use Rattle.std.proofs.Common.{◌≡◌, ℕ, ◌+◌, ◌^◌, ◌<◌, ◌≤◌, eqb, List, [], ◌∷◌, ◌++◌, length, get_or, take, drop, Some, None, decimal, Option, sym, refl, ap, ◌∙◌, subst, ⊎_elim, cond, arith}
 use Rattle.std.proofs.lemmas.Fmt.{digits_decimal}
-use Rattle.std.proofs.lemmas.List.{append_assoc, drop_at, drop_more, length-append, length_push, take-append-drop, take_at, take_rest}
-use Rattle.std.proofs.lemmas.Bool.{cond_both, cond-false, cond-true, eq-eqb, eqb-false, eqb-true, ne_eqb}
-use Rattle.console.specs.Grammar.{field, first_space, number_of, parted, three_of, two_of, with}
-use Rattle.console.proofs.Numbers.{Figures, no_some, number_all, number_some, own, same_some}
+use Rattle.std.specs.List.{position, position_or_len}
+use Rattle.std.proofs.lemmas.Option.{none-some, same_Some}
+use Rattle.std.proofs.lemmas.List.Recursion.{is_position_or_len}
+use Rattle.std.proofs.lemmas.List.Sums.{passes_at_first, prefix_len-le-length}
+use Rattle.std.proofs.lemmas.List.{append_assoc, drop_at, drop_more, length-append, length_push, take-append-drop, take_at}
+use Rattle.std.proofs.lemmas.Bool.{cases_lt, cond_both, cond-false, cond-true, eq-eqb, eqb-false, eqb-true, le-ltb, lt-ltb, ne_eqb}
+use Rattle.console.specs.Grammar.{field, split_of, first_space, number_of, parted, three_of, two_of, with}
+use Rattle.console.proofs.Numbers.{Figures, number_all, number_some, own}
 
--- the first space by what stands before it and at it
-pub first_space_is : (bs : List ℕ) (n : ℕ) → n ≤ length bs → ((k : ℕ) → k < n → get_or bs k 0 ≡ 32 → ⊥) → (n < length bs → get_or bs n 0 ≡ 32) → first_space bs ≡ n
-first_space_is [] n within before at = omega arith
-first_space_is (b ∷ bs) zero within before at = cond-true (eqb b 32) 0 (1 + first_space bs) (eq-eqb b 32 (at (omega arith)))
-first_space_is (b ∷ bs) (suc n) within before at =
-    let rest = first_space_is bs n (omega arith) (λ k l. before (suc k) (omega arith)) (λ l. at (omega arith)) in
-    cond-false (eqb b 32) 0 (1 + first_space bs) (ne_eqb b 32 (before 0 (omega arith))) ∙ omega arith
+first_space_is : (bs : List ℕ) → first_space bs ≡ position_or_len (λ b. eqb b 32) bs
+first_space_is = is_position_or_len first_space (λ b. eqb b 32) refl (λ _ _. refl)
+
+-- f of where the first space stands, as a search finds it
+at_space : {Z : Type 0} (bs : List ℕ) (f : ℕ → Option Z) → cond (eqb (first_space bs) (length bs)) None (f (first_space bs)) ≡ with (position (λ b. eqb b 32) bs) f
+at_space bs f =
+    let n = position_or_len (λ b. eqb b 32) bs in
+    let is = first_space_is bs in
+    ⊎_elim
+    (λ (below : n < length bs). cond-false _ _ _ (ne_eqb (first_space bs) (length bs) (λ e. omega arith)) ∙ ap f is ∙ sym (ap (λ o. with o f) (cond-true _ _ _ (lt-ltb n (length bs) below))))
+    (λ (past : length bs ≤ n). cond-true _ _ _ (eq-eqb (first_space bs) (length bs) (omega (arith, prefix_len-le-length {X = ℕ}))) ∙ sym (ap (λ o. with o f) (cond-false _ _ _ (le-ltb n (length bs) past))))
+    (cases_lt n (length bs))
+
+-- the first number and the rest, by where a search finds the first space
+abbrev number_to : List ℕ → ℕ → Option (ℕ × List ℕ)
+number_to bs n = with (number_of (take n bs)) (λ x. Some (x, drop (n + 1) bs))
+
+pub first_none : (bs : List ℕ) → None ≡ position (λ b. eqb b 32) bs → split_of bs ≡ None
+first_none bs e = at_space bs (number_to bs) ∙ ap (λ p. with p (number_to bs)) (sym e)
+
+pub first_at : (bs : List ℕ) (n : ℕ) (o : Option ℕ) → Some n ≡ position (λ b. eqb b 32) bs → o ≡ number_of (take n bs) → split_of bs ≡ with o (λ x. Some (x, drop (n + 1) bs))
+first_at bs n o e number = at_space bs (number_to bs) ∙ ap (λ p. with p (number_to bs)) (sym e) ∙ ap (λ p. with p (λ x. Some (x, drop (n + 1) bs))) (sym number)
 
 first_space_le : (bs : List ℕ) → first_space bs ≤ length bs
-first_space_le [] = omega arith
-first_space_le (b ∷ bs) = cond_both (eqb b 32) 0 (1 + first_space bs) (λ n. n ≤ length (b ∷ bs)) (λ _. omega arith) (λ _. omega (arith, first_space_le bs))
+first_space_le bs = omega (arith, first_space_is bs, prefix_len-le-length {X = ℕ})
 
 first_space_at : (bs : List ℕ) → first_space bs < length bs → get_or bs (first_space bs) 0 ≡ 32
-first_space_at [] = λ below. absurd (omega arith)
-first_space_at (b ∷ bs) =
-    cond_both (eqb b 32) 0 (1 + first_space bs) (λ n. n < length (b ∷ bs) → get_or (b ∷ bs) n 0 ≡ 32)
-    (λ e below. eqb-true b 32 e)
-    (λ e below.
-    let one : 1 + first_space bs ≡ suc (first_space bs) = omega arith in
-    ap (λ n. get_or (b ∷ bs) n 0) one ∙ first_space_at bs (omega arith))
+first_space_at bs below =
+    let is = first_space_is bs in
+    ap (λ n. get_or bs n 0) is ∙ eqb-true _ 32 (passes_at_first (λ b. eqb b 32) bs 0 (omega arith))
 
 -- digits hold no space
 first_space_past : (ds rest : List ℕ) → Figures ds → first_space (ds ++ (32 ∷ rest)) ≡ length ds
@@ -35,7 +49,7 @@ first_space_past (d ∷ ds) rest figs =
     cond-false (eqb d 32) 0 (1 + first_space (ds ++ (32 ∷ rest))) (ne_eqb d 32 (λ e. omega (arith, figs.0.0))) ∙ omega arith
 
 pub with_some : {X Y : Type 0} (o : Option X) (f : X → Option Y) (y : Y) → with o f ≡ Some y → (x : X) × (o ≡ Some x) × (f x ≡ Some y)
-with_some None f y e = absurd (no_some y e)
+with_some None f y e = absurd (none-some y e)
 with_some (Some x) f y e = (x, refl, e)
 
 pub record Halves {X Y Z : Type 0} (f : List ℕ → Option X) (g : List ℕ → Option Y) (join : X → Y → Z) (bs : List ℕ) (z : Z) : Type 0 where
@@ -49,21 +63,6 @@ pub record Halves {X Y Z : Type 0} (f : List ℕ → Option X) (g : List ℕ →
   pub joins : join one other ≡ z
 
 module _ {X Y Z : Type 0} (f : List ℕ → Option X) (g : List ℕ → Option Y) (join : X → Y → Z) where
-  module _ (bs : List ℕ) (n : ℕ) (within : n ≤ length bs) (before : (k : ℕ) → k < n → get_or bs k 0 ≡ 32 → ⊥) (found : n < length bs → get_or bs n 0 ≡ 32) where
-    pub parted_none : n ≡ length bs → parted f g join bs ≡ None
-    parted_none e = cond-true _ _ _ (eq-eqb (first_space bs) (length bs) (first_space_is bs n within before found ∙ e))
-
-    pub parted_at : (o : Option X) (p : Option Y) → (n ≡ length bs → ⊥) → o ≡ f (take (n - 0) (drop 0 bs)) → p ≡ g (take (length bs - (n + 1)) (drop (n + 1) bs)) → parted f g join bs ≡ with o (λ x. with p (λ y. Some (join x y)))
-    parted_at o p here front back =
-        let zero_off : n - 0 ≡ n = omega arith in
-        let is = first_space_is bs n within before found in
-        let both : Option X → Option Y → Option Z = λ u v. with u (λ x. with v (λ y. Some (join x y))) in
-        cond-false _ _ _ (ne_eqb (first_space bs) (length bs) (λ e. here (sym is ∙ e)))
-        ∙ ap (λ k. both (f (take k bs)) (g (drop (k + 1) bs))) is
-        ∙ ap (λ ys. both (f (take n bs)) (g ys)) (sym (take_rest bs (n + 1)))
-        ∙ ap (λ v. both (f (take n bs)) v) (sym back)
-        ∙ ap (λ u. both u p) (sym (front ∙ ap (λ k. f (take k bs)) zero_off))
-
   pub parted_all : (ds rest : List ℕ) (x : X) (y : Y) → Figures ds → f ds ≡ Some x → g rest ≡ Some y → parted f g join (ds ++ (32 ∷ rest)) ≡ Some (join x y)
   parted_all ds rest x y figs front back =
       let bs = ds ++ (32 ∷ rest) in
@@ -82,7 +81,7 @@ module _ {X Y Z : Type 0} (f : List ℕ → Option X) (g : List ℕ → Option Y
   parted_some bs z =
       let n = first_space bs in
       cond_both (eqb n (length bs)) None (with (f (take n bs)) (λ x. with (g (drop (n + 1) bs)) (λ y. Some (join x y)))) (λ o. o ≡ Some z → Halves f g join bs z)
-      (λ _ e. absurd (no_some z e))
+      (λ _ e. absurd (none-some z e))
       (λ here e.
       let below : n < length bs = omega (arith, eqb-false n (length bs) here, first_space_le bs) in
       let a = with_some (f (take n bs)) (λ x. with (g (drop (n + 1) bs)) (λ y. Some (join x y))) z e in
@@ -95,7 +94,7 @@ module _ {X Y Z : Type 0} (f : List ℕ → Option X) (g : List ℕ → Option Y
         split = sym (take-append-drop n bs) ∙ ap (λ ys. take n bs ++ ys) (drop_more bs n 0 below ∙ ap (λ k. k ∷ drop (n + 1) bs) (first_space_at bs below));
         reads_front = a.1;
         reads_back = b.1;
-        joins = same_some (join a.0 b.0) z b.2;
+        joins = same_Some (join a.0 b.0) z b.2;
       })
 
 -- numbers as written, parted by one space each

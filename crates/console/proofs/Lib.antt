@@ -1,5 +1,3 @@
 pub mod Exact
 pub mod Fields
 pub mod Numbers
-pub mod Pushed
-pub mod Told

@@ -1,17 +1,11 @@
 -- A number is read from just the bytes that write it in decimal. Assumes nothing.
-use Rattle.std.proofs.Common.{◌≡◌, ℕ, ◌+◌, ◌-◌, ◌*◌, ◌^◌, ◌<◌, ◌≤◌, false, cond, ◌||◌, eqb, ltb, List, [], ◌∷◌, length, get_or, drop, Some, None, decimal, Option, sym, refl, ap, ◌∙◌, ⊎_elim, arith, rules}
+use Rattle.std.proofs.Common.{◌≡◌, ℕ, ◌+◌, ◌-◌, ◌*◌, ◌^◌, ◌<◌, ◌≤◌, false, cond, ◌||◌, eqb, ltb, List, [], ◌∷◌, length, get_or, Some, None, decimal, Option, sym, refl, ap, ◌∙◌, ⊎_elim, arith, rules}
 use Rattle.std.specs.Int.{IsInRange}
 use Rattle.std.proofs.lemmas.Fmt.{decimal_digit, decimal_nonempty, decimal-digits_value, digits_decimal, first_decimal, digits_value-decimal}
-use Rattle.std.proofs.lemmas.List.{at_drop_more}
+use Rattle.std.proofs.lemmas.Option.{none-some, same_Some}
 use Rattle.std.proofs.lemmas.Str.Parse.{IsNumeralModel, numerals_by_fold}
 use Rattle.std.proofs.lemmas.Bool.{and_cases, and_left, and_right, cases_lt, cond_both, cond-false, eqb-false, le-ltb, ltb-false, ne_eqb, or_from, or_parts}
 use Rattle.console.specs.Grammar.{digits_of, grow, number_of, padded, with}
-
-pub no_some : {X : Type 0} (x : X) → None ≡ Some x → ⊥
-no_some x e = let z : ◌≡◌ {A = ℕ} 0 1 = cc in omega arith
-
-pub same_some : {X : Type 0} (x y : X) → Some x ≡ Some y → x ≡ y
-same_some x y e = cc
 
 abbrev pub Figures : List ℕ → Type 0
 Figures [] = Unit {0}
@@ -28,18 +22,14 @@ read_on_ge : (sum : ℕ) (bs : List ℕ) → sum ≤ read_on sum bs
 read_on_ge sum [] = omega arith
 read_on_ge sum (b ∷ bs) = omega (arith, read_on_ge (sum * 10 + (b - 48)) bs)
 
--- one turn: o is the number with the digit at i
-pub digits_step : (xs : List ℕ) (i sum : ℕ) (o : Option ℕ) → i < length xs → o ≡ grow sum (get_or xs i 0) → digits_of sum (drop i xs) ≡ with o (λ m. digits_of m (drop (i + 1) xs))
-digits_step xs i sum o below e = at_drop_more (digits_of sum) xs i 0 below ∙ ap (λ p. with p (λ m. digits_of m (drop (i + 1) xs))) (sym e)
-
 digits_some : (sum : ℕ) (bs : List ℕ) (n : ℕ) → sum < 2 ^ 32 → digits_of sum bs ≡ Some n → Figures bs × (read_on sum bs ≡ n) × (n < 2 ^ 32)
-digits_some sum [] n small = λ e. let same = same_some sum n e in (tt, same, omega arith)
+digits_some sum [] n small = λ e. let same = same_Some sum n e in (tt, same, omega arith)
 digits_some sum (b ∷ bs) n small =
     let more = sum * 10 + (b - 48) in
     let P : Option ℕ → Type 0 = λ o. with o (λ m. digits_of m bs) ≡ Some n → (IsInRange 48 57 b × Figures bs) × (read_on more bs ≡ n) × (n < 2 ^ 32) in
     cond_both (ltb b 48 || ltb 57 b) None (cond (ltb 4294967295 more) None (Some more)) P
-    (λ _ e. absurd (no_some n e))
-    (λ digit. cond_both (ltb 4294967295 more) None (Some more) P (λ _ e. absurd (no_some n e)) (λ fits e.
+    (λ _ e. absurd (none-some n e))
+    (λ digit. cond_both (ltb 4294967295 more) None (Some more) P (λ _ e. absurd (none-some n e)) (λ fits e.
     let parts = or_parts (ltb b 48) (ltb 57 b) digit in
     let rest = digits_some more bs n (omega (arith, ltb-false 4294967295 more fits)) e in
     (((ltb-false b 48 parts.0, ltb-false 57 b parts.1), rest.0), rest.1, rest.2)))
@@ -56,7 +46,7 @@ digits_all sum (b ∷ bs) figs small =
 pub number_some : (bs : List ℕ) (n : ℕ) → number_of bs ≡ Some n → (bs ≡ decimal n) × (n < 2 ^ 32)
 number_some bs n =
     cond_both (eqb (length bs) 0 || padded bs) None (digits_of 0 bs) (λ o. o ≡ Some n → (bs ≡ decimal n) × (n < 2 ^ 32))
-    (λ _ e. absurd (no_some n e))
+    (λ _ e. absurd (none-some n e))
     (λ plain e.
     let parts = or_parts (eqb (length bs) 0) (padded bs) plain in
     let read = digits_some 0 bs n (omega arith) e in

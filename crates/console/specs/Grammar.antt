@@ -34,6 +34,10 @@ first_space (b ∷ bs) = cond (b == 32) 0 (1 + first_space bs)
 abbrev pub parted : {X Y Z : Type 0} → (List ℕ → Option X) → (List ℕ → Option Y) → (X → Y → Z) → List ℕ → Option Z
 parted f g join bs = cond (first_space bs == length bs) None (with (f (take (first_space bs) bs)) (λ x. with (g (drop (first_space bs + 1) bs)) (λ y. Some (join x y))))
 
+-- the number before the first space, and what stands after that space
+abbrev pub split_of : List ℕ → Option (ℕ × List ℕ)
+split_of bs = cond (first_space bs == length bs) None (with (number_of (take (first_space bs) bs)) (λ x. Some (x, drop (first_space bs + 1) bs)))
+
 abbrev pub two_of : List ℕ → Option (ℕ × ℕ)
 two_of bs = parted number_of number_of (λ x y. (x, y)) bs
 
@@ -85,11 +89,6 @@ Fits (Admit f t m) = (f < 2 ^ 32) × (t < 2 ^ 32) × (m < 2 ^ 32)
 Fits (Withdraw f t) = (f < 2 ^ 32) × (t < 2 ^ 32)
 Fits (Hold p) = p < 2 ^ 32
 Fits (Lift p) = p < 2 ^ 32
-
--- o is the command whose written form the line is, and None where it is that of none
-pub record Reads (line : List ℕ) (o : Option Command) : Type 0 where
-  pub some : (c : Command) → o ≡ Some c → (line ≡ written c) × Fits c
-  pub all : (c : Command) → Fits c → line ≡ written c → o ≡ Some c
 
 -- what a line is: its command, or 16
 abbrev pub or_16 : Option Command → Result Command ℕ

@@ -1,7 +1,7 @@
 // Commands as lines: a letter, then its numbers, with one space before each.
-ghost use Rattle.std.specs.Prelude.{◌≡◌, ℕ, ◌<◌, ◌≤◌, List, ◌++◌, length, None, Err, ◌≢◌, slice_index};
+ghost use Rattle.std.specs.Prelude.{◌≡◌, ℕ, ◌<◌, List, ◌++◌, length, Err, ◌==◌, position, option_map};
 ghost use Rattle.catalogue.specs.Refusals.{answer};
-ghost use Rattle.console.specs.Grammar.{Exactly, Reads, parsed, admit_of, by_letter, command_of, digits_of, grow, hold_of, lift_of, number_of, opened, padded, size_of, three_of, two_of, withdraw_of};
+ghost use Rattle.console.specs.Grammar.{Exactly, parsed, by_letter, command_of, digits_of, split_of, grow, number_of, three_of, two_of};
 
 use crate::command::Command;
 use catalogue::Refusal;
@@ -16,130 +16,74 @@ pub fn parse(line: &[u8]) -> Result<Command, Refusal>
     ensures short { 64 < length line.now → answer result ≡ Err 16 }
     ensures cut { (rest : List ℕ) → length line.now ≡ 65 → parsed (line.now ++ rest) ≡ answer result }
 {
-    match read(line) {
-        Some(command) => Ok(command),
-        None => Err(Refusal::NotCommand),
-    }
+    read(line).ok_or(Refusal::NotCommand)
 }
 
 fn read(line: &[u8]) -> Option<Command>
-    ensures value { result ≡ command_of line.now }
-    ensures exact { Reads line.now result }
-    ensures short { 64 < length line.now → result ≡ None }
-    ensures cut { (rest : List ℕ) → length line.now ≡ 65 → command_of (line.now ++ rest) ≡ result }
+    ensures { result ≡ command_of line.now }
 {
-    if line.len() > LONGEST || !opens(line) {
+    if line.len() > LONGEST {
         return None;
     }
-    by_letter(line[0] as char, &line[2..])
-}
-
-// Whether a first byte and a space begin the line.
-fn opens(line: &[u8]) -> bool
-    ensures { result ≡ opened line.now }
-{
-    line.len() > 1 && line[1] == b' '
-}
-
-fn by_letter(letter: char, fields: &[u8]) -> Option<Command>
-    ensures { result ≡ by_letter letter fields.now }
-{
-    match letter {
-        'n' => size(fields),
-        'a' => admit(fields),
-        'w' => withdraw(fields),
-        'h' => hold(fields),
-        'l' => lift(fields),
+    match line {
+        [letter, b' ', fields @ ..] => by_letter(*letter, fields),
         _ => None,
     }
 }
 
-fn size(fields: &[u8]) -> Option<Command>
-    ensures { result ≡ size_of fields.now }
+fn by_letter(letter: u8, fields: &[u8]) -> Option<Command>
+    ensures { result ≡ by_letter letter fields.now }
 {
-    Some(Command::Size(number(fields)?))
-}
-
-fn admit(fields: &[u8]) -> Option<Command>
-    ensures { result ≡ admit_of fields.now }
-{
-    let (from, to, minutes) = three(fields)?;
-    Some(Command::Admit(from, to, minutes))
-}
-
-fn withdraw(fields: &[u8]) -> Option<Command>
-    ensures { result ≡ withdraw_of fields.now }
-{
-    let (from, to) = two(fields)?;
-    Some(Command::Withdraw(from, to))
-}
-
-fn hold(fields: &[u8]) -> Option<Command>
-    ensures { result ≡ hold_of fields.now }
-{
-    Some(Command::Hold(number(fields)?))
-}
-
-fn lift(fields: &[u8]) -> Option<Command>
-    ensures { result ≡ lift_of fields.now }
-{
-    Some(Command::Lift(number(fields)?))
+    match letter {
+        b'n' => number(fields).map(Command::Size),
+        b'a' => three(fields).map(|(from, to, minutes)| Command::Admit(from, to, minutes)),
+        b'w' => two(fields).map(|(from, to)| Command::Withdraw(from, to)),
+        b'h' => number(fields).map(Command::Hold),
+        b'l' => number(fields).map(Command::Lift),
+        _ => None,
+    }
 }
 
 // Two numbers, and one space between them.
 fn two(fields: &[u8]) -> Option<(u32, u32)>
     ensures { result ≡ two_of fields.now }
 {
-    let end = space(fields);
-    if end == fields.len() {
-        return None;
-    }
-    let first = number(&fields[0..end])?;
-    let second = number(&fields[end + 1..])?;
-    Some((first, second))
+    let (first, rest) = split(fields)?;
+    Some((first, number(rest)?))
 }
 
 // A number, one space and two more.
 fn three(fields: &[u8]) -> Option<(u32, u32, u32)>
     ensures { result ≡ three_of fields.now }
 {
-    let end = space(fields);
-    if end == fields.len() {
-        return None;
-    }
-    let first = number(&fields[0..end])?;
-    let (second, third) = two(&fields[end + 1..])?;
+    let (first, rest) = split(fields)?;
+    let (second, third) = two(rest)?;
     Some((first, second, third))
 }
 
-// Where the first space stands, or the length where there is none.
-fn space(bytes: &[u8]) -> usize
-    ensures within { result ≤ length bytes.now }
-    ensures before { (k : ℕ) → k < result → slice_index bytes.now k ≢ 32 }
-    ensures found { result < length bytes.now → slice_index bytes.now result ≡ 32 }
+// The number before the first space, and what stands after that space.
+fn split(fields: &[u8]) -> Option<(u32, &[u8])>
+    ensures { option_map (λ p. (p.0, p.1.now)) result ≡ split_of fields.now }
 {
-    for (i, byte) in bytes.iter().enumerate() {
-        if *byte == b' ' {
-            return i;
-        }
-    }
-    bytes.len()
+    let end = space(fields)?;
+    Some((number(&fields[..end])?, &fields[end + 1..]))
+}
+
+// Where the first space stands.
+fn space(bytes: &[u8]) -> Option<usize>
+    ensures { result ≡ position (λ b. b == 32) bytes.now }
+{
+    bytes.iter().position(|byte| *byte == b' ')
 }
 
 // A decimal number without leading zeros, up to 4294967295.
 fn number(bytes: &[u8]) -> Option<u32>
     ensures { result ≡ number_of bytes.now }
 {
-    if bytes.is_empty() || leads_with_zero(bytes) {
-        return None;
+    match bytes {
+        [] | [b'0', _, ..] => None,
+        _ => digits(bytes),
     }
-    digits(bytes)
-}
-
-fn leads_with_zero(bytes: &[u8]) -> bool
-    ensures { result ≡ padded bytes.now }
-{
-    bytes.len() > 1 && bytes[0] == b'0'
 }
 
 fn digits(bytes: &[u8]) -> Option<u32>
@@ -156,12 +100,6 @@ fn digits(bytes: &[u8]) -> Option<u32>
 fn grown(sum: u32, byte: u8) -> Option<u32>
     ensures { result ≡ grow sum byte }
 {
-    if byte < b'0' || byte > b'9' {
-        return None;
-    }
-    let more = sum as u64 * 10 + (byte - b'0') as u64;
-    if more > u32::MAX as u64 {
-        return None;
-    }
-    Some(more as u32)
+    let digit = char::from(byte).to_digit(10)?;
+    sum.checked_mul(10)?.checked_add(digit)
 }

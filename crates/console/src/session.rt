@@ -1,6 +1,5 @@
 // What a line does: it sets n, or makes a call on the catalogue.
-ghost use Rattle.std.specs.Prelude.{◌≡◌};
-ghost use Rattle.labels.specs.Kinds.{minutes_of};
+ghost use Rattle.std.specs.Prelude.{◌≡◌, ok_or};
 ghost use Rattle.catalogue.specs.Refusals.{answer};
 ghost use Rattle.console.specs.Sessions.{opening, sets, call_of, executed, left, obeyed, after};
 
@@ -16,23 +15,15 @@ const MOST_PACKAGES: u32 = 64;
 pub fn open_with(line: &[u8]) -> Result<u32, Refusal>
     ensures { answer result ≡ opening line.now }
 {
-    match parse(line) {
-        Ok(command) => size(command),
-        Err(refusal) => Err(refusal),
-    }
+    size(parse(line)?)
 }
 
 // Does what a line says, once n is set.
 pub fn obey<C: Catalogue<Label = Minutes>>(catalogue: &mut C, line: &[u8]) -> Result<(), Refusal>
-    requires { C.Catalogue.valid catalogue.old }
-    ensures stays { C.Catalogue.valid catalogue.new }
     ensures answers { answer result ≡ obeyed (C.Catalogue.meaning catalogue.old) line.now }
     ensures leaves { C.Catalogue.meaning catalogue.new ≡ after (C.Catalogue.meaning catalogue.old) line.now }
 {
-    match parse(line) {
-        Ok(command) => execute(catalogue, command),
-        Err(refusal) => Err(refusal),
-    }
+    execute(catalogue, parse(line)?)
 }
 
 // The n that a command sets.
@@ -40,12 +31,8 @@ pub fn size(command: Command) -> Result<u32, Refusal>
     ensures { answer result ≡ sets command }
 {
     match command {
-        Command::Size(n) => {
-            if n == 0 || n > MOST_PACKAGES {
-                return Err(Refusal::BadCount);
-            }
-            Ok(n)
-        }
+        Command::Size(n) if (1..=MOST_PACKAGES).contains(&n) => Ok(n),
+        Command::Size(_) => Err(Refusal::BadCount),
         _ => Err(Refusal::NotCommand),
     }
 }
@@ -55,32 +42,27 @@ pub fn execute<C: Catalogue<Label = Minutes>>(
     catalogue: &mut C,
     command: Command,
 ) -> Result<(), Refusal>
-    requires { C.Catalogue.valid catalogue.old }
-    ensures stays { C.Catalogue.valid catalogue.new }
     ensures answers { answer result ≡ executed (C.Catalogue.meaning catalogue.old) command }
     ensures leaves { C.Catalogue.meaning catalogue.new ≡ left (C.Catalogue.meaning catalogue.old) command }
 {
-    match call(command) {
-        Some(call) => make_call(catalogue, call),
-        None => Err(Refusal::NotCommand),
-    }
+    make_call(catalogue, Call::try_from(command)?)
 }
 
-// The call that a command asks for.
-fn call(command: Command) -> Option<Call<Minutes>>
-    ensures { result ≡ call_of command }
-{
-    match command {
-        Command::Size(_) => None,
-        Command::Admit(from, to, value) => Some(Call::Admit(from, to, minutes(value))),
-        Command::Withdraw(from, to) => Some(Call::Withdraw(from, to)),
-        Command::Hold(p) => Some(Call::Hold(p)),
-        Command::Lift(p) => Some(Call::Lift(p)),
-    }
-}
+// The call that a command asks for; to set n is none.
+impl TryFrom<Command> for Call<Minutes> {
+    ghost use Rattle.catalogue.specs.declared.refusal.Refusal.TheVariants.{NotCommand};
 
-fn minutes(value: u32) -> Minutes
-    ensures { result ≡ minutes_of value }
-{
-    Minutes { value }
+    type Error = Refusal;
+
+    ghost try_from_gives = { λ command result. result ≡ ok_or (call_of command) NotCommand };
+
+    fn try_from(command: Command) -> Result<Self, Refusal> {
+        match command {
+            Command::Size(_) => Err(Refusal::NotCommand),
+            Command::Admit(from, to, value) => Ok(Call::Admit(from, to, Minutes { value })),
+            Command::Withdraw(from, to) => Ok(Call::Withdraw(from, to)),
+            Command::Hold(p) => Ok(Call::Hold(p)),
+            Command::Lift(p) => Ok(Call::Lift(p)),
+        }
+    }
 }

@@ -6,24 +6,34 @@ use catalogue::Refusal;
 
 #[test]
 fn reads_commands(rt: HostRuntime) {
-    assert_eq!(rt; parse(b"n 3"), Ok(Command::Size(3)));
-    assert_eq!(rt; parse(b"a 0 1 4"), Ok(Command::Admit(0, 1, 4)));
-    assert_eq!(rt; parse(b"w 0 1"), Ok(Command::Withdraw(0, 1)));
-    assert_eq!(rt; parse(b"h 1"), Ok(Command::Hold(1)));
-    assert_eq!(rt; parse(b"l 1"), Ok(Command::Lift(1)));
-    assert_eq!(rt; parse(b"n 4294967295"), Ok(Command::Size(4294967295)));
+    let lines: [(&[u8], Command); 6] = [
+        (b"n 3", Command::Size(3)),
+        (b"a 0 1 4", Command::Admit(0, 1, 4)),
+        (b"w 0 1", Command::Withdraw(0, 1)),
+        (b"h 1", Command::Hold(1)),
+        (b"l 1", Command::Lift(1)),
+        (b"n 4294967295", Command::Size(4294967295)),
+    ];
+    for (line, command) in lines {
+        assert_eq!(rt; parse(line), Ok(command));
+    }
 }
 
 #[test]
 fn refuses_other_lines(rt: HostRuntime) {
-    assert_eq!(rt; parse(b""), Err(Refusal::NotCommand));
-    assert_eq!(rt; parse(b"n"), Err(Refusal::NotCommand));
-    assert_eq!(rt; parse(b"n  3"), Err(Refusal::NotCommand));
-    assert_eq!(rt; parse(b"n 03"), Err(Refusal::NotCommand));
-    assert_eq!(rt; parse(b"n 3 "), Err(Refusal::NotCommand));
-    assert_eq!(rt; parse(b"a 0 1"), Err(Refusal::NotCommand));
-    assert_eq!(rt; parse(b"n 4294967296"), Err(Refusal::NotCommand));
-    assert_eq!(rt; parse(b"x 1"), Err(Refusal::NotCommand));
+    let lines: [&[u8]; 8] = [
+        b"",
+        b"n",
+        b"n  3",
+        b"n 03",
+        b"n 3 ",
+        b"a 0 1",
+        b"n 4294967296",
+        b"x 1",
+    ];
+    for line in lines {
+        assert_eq!(rt; parse(line), Err(Refusal::NotCommand));
+    }
 }
 
 #[test]

@@ -1,56 +1,68 @@
 // Standard input, line by line, in bounded memory.
+use arrayvec::{ArrayVec, IntoIter};
 use console::buffer::LineBuffer;
 use std::io::{Read, Stdin};
 
+// The most bytes that are read at once.
+const CHUNK: usize = 4096;
+
+// The bytes of standard input. Where reading fails, the input has ended.
+#[derive(Drop)]
+struct Bytes {
+    source: Stdin,
+    chunk: IntoIter<u8, CHUNK>,
+}
+
+impl Bytes {
+    fn next_chunk(&mut self) -> IntoIter<u8, CHUNK> {
+        let mut bytes = [0; CHUNK];
+        let len = self.source.read(&mut bytes).unwrap_or(0);
+        let mut chunk = ArrayVec::from(bytes);
+        chunk.truncate(len);
+        chunk.into_iter()
+    }
+}
+
+impl Iterator for Bytes {
+    type Item = u8;
+
+    fn next(&mut self) -> Option<u8> {
+        if self.chunk.len() == 0 {
+            self.chunk = self.next_chunk();
+        }
+        self.chunk.next()
+    }
+}
+
+// Its lines. What stands after the last line feed is a line if it is not empty. No proof knows that
+// they end, so a loop over them takes a number of them.
 #[derive(Drop)]
 pub struct Input {
-    source: Stdin,
-    chunk: [u8; 4096],
-    at: usize,
-    len: usize,
-    line: LineBuffer,
+    bytes: Bytes,
 }
 
 impl Input {
     pub fn new(source: Stdin) -> Input {
         Input {
-            source,
-            chunk: [0; 4096],
-            at: 0,
-            len: 0,
-            line: LineBuffer::new(),
+            bytes: Bytes {
+                source,
+                chunk: ArrayVec::new().into_iter(),
+            },
         }
     }
+}
 
-    // The line that was read last, or its first 65 bytes.
-    pub fn line(&self) -> &[u8] {
-        self.line.line()
-    }
+impl Iterator for Input {
+    type Item = LineBuffer;
 
-    // Reads the next line. False at the end: nothing after the last line feed is no line.
-    pub fn next_line(&mut self) -> bool {
-        self.line.clear();
-        for _ in 0..u64::MAX {
-            match self.next_byte() {
-                Some(b'\n') => return true,
-                Some(byte) => self.line.push(byte),
-                None => break,
+    fn next(&mut self) -> Option<LineBuffer> {
+        let mut line = LineBuffer::new();
+        for byte in self.bytes.by_ref().take(usize::MAX) {
+            if byte == b'\n' {
+                return Some(line);
             }
+            line.push(byte);
         }
-        !self.line.is_empty()
-    }
-
-    // The next byte; nothing at the end, or where reading fails.
-    fn next_byte(&mut self) -> Option<u8> {
-        if self.at >= self.len {
-            self.at = 0;
-            self.len = self.source.read(&mut self.chunk).unwrap_or(0);
-        }
-        if self.at >= self.len {
-            return None;
-        }
-        let byte = self.chunk.get(self.at).copied();
-        self.at += 1;
-        byte
+        (!line.is_empty()).then_some(line)
     }
 }

@@ -3,7 +3,7 @@
 
 mod input;
 
-use catalogue::{Blank, Catalogue, Holding, Layer, Ledger, Make, Refusal};
+use catalogue::{Blank, Catalogue, Holding, Ledger, Make, Refusal};
 use console::session::{obey, open_with};
 use input::Input;
 use labels::{Label, Minutes};
@@ -14,20 +14,19 @@ use std::io;
 const PLACES: usize = 512;
 
 fn main(rt: HostRuntime) -> io::Result<()> {
-    let label = Minutes::NONE;
     let mut arcs = [Arc {
         from: 0,
         to: 0,
-        label,
+        label: Minutes::NONE,
     }; PLACES];
     let mut input = Input::new(rt.stdin());
     let Some(n) = first_size(&rt, &mut input)? else {
         return Ok(());
     };
-    match Ledger::make(Blank { n, arcs: &mut arcs }) {
-        Ok(ledger) => {
+    match Holding::<Ledger<Minutes>>::make(Blank { n, arcs: &mut arcs }) {
+        Ok(mut catalogue) => {
             println!(rt; "ok")?;
-            serve(&rt, &mut input, &mut Holding::over(ledger))
+            serve(&rt, &mut input, &mut catalogue)
         }
         // not for an n of 1 to 64
         Err(refusal) => tell(&rt, Err(refusal)),
@@ -36,11 +35,8 @@ fn main(rt: HostRuntime) -> io::Result<()> {
 
 // Answers lines until one sets n; nothing where the input ends before that.
 fn first_size(rt: &HostRuntime, input: &mut Input) -> io::Result<Option<u32>> {
-    for _ in 0..u64::MAX {
-        if !input.next_line() {
-            break;
-        }
-        match open_with(input.line()) {
+    for line in input.by_ref().take(usize::MAX) {
+        match open_with(line.line()) {
             Ok(n) => return Ok(Some(n)),
             Err(refusal) => tell(rt, Err(refusal))?,
         }
@@ -53,14 +49,9 @@ fn serve<C: Catalogue<Label = Minutes>>(
     rt: &HostRuntime,
     input: &mut Input,
     catalogue: &mut C,
-) -> io::Result<()>
-    requires { C.Catalogue.valid catalogue.old }
-{
-    for _ in 0..u64::MAX {
-        if !input.next_line() {
-            break;
-        }
-        tell(rt, obey(catalogue, input.line()))?;
+) -> io::Result<()> {
+    for line in input.by_ref().take(usize::MAX) {
+        tell(rt, obey(catalogue, line.line()))?;
     }
     Ok(())
 }
@@ -68,9 +59,6 @@ fn serve<C: Catalogue<Label = Minutes>>(
 fn tell(rt: &HostRuntime, answer: Result<(), Refusal>) -> io::Result<()> {
     match answer {
         Ok(()) => println!(rt; "ok"),
-        Err(refusal) => {
-            let number = refusal.number();
-            println!(rt; "refused {number}")
-        }
+        Err(refusal) => println!(rt; "{refusal}"),
     }
 }

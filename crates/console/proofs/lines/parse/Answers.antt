@@ -1,24 +1,16 @@
-use Rattle.std.proofs.Common.{ap}
+use Rattle.std.proofs.Common.{ap, sym, ◌∙◌}
+use Rattle.catalogue.specs.Refusals.{answer}
 use Rattle.console.specs.Grammar.{or_16}
-use Rattle.console.proofs.Told.{taken_exactly, refused_exactly}
+use Rattle.console.proofs.Exact.{answered, cut_same, exactly, long_none}
 use Rattle.console.proofs.lines.parse.Goals as goal
 
-pub returns-in-Some : goal.returns-in-Some
-returns-in-Some c =
-    let e = c.in-Some.ensures in
+pub returns : goal.returns
+returns c =
+    let line = c.args.line.now in
+    let value = ap answer c.ok_or.ensures.value ∙ answered c.read.result ∙ ap or_16 c.read.ensures in
     record {
-      value = ap or_16 e.value;
-      exact = taken_exactly c.args.line.now c.in-Some.command e.exact;
-      short = λ h. ap or_16 (e.short h);
-      cut = λ rest h. ap or_16 (e.cut rest h);
-    }
-
-pub returns-in-None : goal.returns-in-None
-returns-in-None c =
-    let e = c.in-None.ensures in
-    record {
-      value = ap or_16 e.value;
-      exact = refused_exactly c.args.line.now e.exact;
-      short = λ h. ap or_16 (e.short h);
-      cut = λ rest h. ap or_16 (e.cut rest h);
+      value = value;
+      exact = rw c.ok_or.ensures.value (exactly line c.read.result c.read.ensures);
+      short = λ h. value ∙ ap or_16 (long_none line h);
+      cut = λ rest h. ap or_16 (cut_same line rest h) ∙ sym value;
     }
