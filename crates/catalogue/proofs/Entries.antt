@@ -1,26 +1,14 @@
 -- A ledger's arcs.
-use Rattle.std.proofs.Common.{◌≡◌, ℕ, ◌+◌, ◌-◌, ◌<◌, ◌≤◌, List, [], ◌∷◌, ◌++◌, length, get_or, take, set, Some, None, Ok, sym, ap, ◌∙◌, subst, add-one, arith, length-set, length-take, get_or-take, take-suc-set}
-use Rattle.std.proofs.lemmas.Option.{slice_get_read, slice_get_past}
+use Rattle.std.proofs.Common.{◌≡◌, ℕ, ◌+◌, ◌-◌, ◌<◌, List, [], ◌∷◌, ◌++◌, length, take, set, Ok, sym, ◌∙◌, subst, add-one, arith, length-set, take-suc-set}
 use Rattle.labels.specs.Algebra.{Ops, Exact}
 use Rattle.paths.specs.declared.arc.Arc.{Arc}
 use Rattle.paths.specs.Arcs.{arc}
 use Rattle.catalogue.specs.Meanings.{Sound}
-use Rattle.catalogue.specs.Calls.{arc_at, unheld, admit_answer, admitted, admit_leaves}
+use Rattle.catalogue.specs.Calls.{admit_answer, admitted, admit_leaves}
 use Rattle.catalogue.specs.Ledgers.{ledger, LedgerOk}
 use Rattle.catalogue.proofs.Accepting.{admits, admitted_sound, admit_took}
 
 module _ {L : Type 0} where
-  pub at_place : (n len k : ℕ) (arcs : List (Arc L)) (x : Arc L) → k < len → len ≤ length arcs → x ≡ get_or arcs k x → Some x ≡ arc_at (ledger n len arcs) k
-  at_place n len k arcs x inside filled read =
-      let long : length (take len arcs) ≡ len = simp length-take (omega arith) in
-      let read' : x ≡ get_or (take len arcs) k x = read ∙ sym (get_or-take len arcs k x inside) in
-      sym (ap (unheld (ledger n len arcs)) (slice_get_read (take len arcs) len k x (sym long) inside read'))
-
-  pub past_places : (n len k : ℕ) (arcs : List (Arc L)) → len ≤ k → None ≡ arc_at (ledger n len arcs) k
-  past_places n len k arcs past =
-      let long : length (take len arcs) ≤ k = simp length-take (omega arith) in
-      sym (ap (unheld (ledger n len arcs)) (slice_get_past (take len arcs) k long))
-
   one_more : (len : ℕ) (arcs : List (Arc L)) (a : Arc L) → len < length arcs → take (len + 1) (set arcs len a) ≡ take len arcs ++ (a ∷ [])
   one_more len arcs a h = rw add-one (take-suc-set arcs len a h)
 

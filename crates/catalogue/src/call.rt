@@ -1,5 +1,5 @@
 // A call that alters a catalogue, with its arguments.
-#[derive(Clone, Copy)]
+#[derive(Clone, Copy, PartialEq, Eq, Debug)]
 pub enum Call<L> {
     Admit(u32, u32, L),
     Withdraw(u32, u32),

@@ -14,7 +14,8 @@ use crate::refusal::Refusal;
 use labels::Label;
 use paths::Arc;
 
-// The first `len` records are the stock; the others are free.
+// The first `len` records are the stock; the others are free. The records are lent, so that want of
+// memory refuses no arc.
 #[derive(Drop)]
 pub struct Ledger<'a, K: Label> {
     n: u32,
@@ -76,8 +77,7 @@ impl<'a, K: Label> Catalogue for Ledger<'a, K> {
     }
 
     fn arc_at(&self, k: usize) -> Option<Arc<K>> {
-        let arcs = &*self.arcs;
-        if k < self.len { Some(arcs[k]) } else { None }
+        self.arcs[..self.len].get(k).copied()
     }
 
     fn admit(&mut self, from: u32, to: u32, label: K) -> Result<(), Refusal> {
@@ -154,6 +154,7 @@ fn drop_between<K: Label>(arcs: &mut [Arc<K>], len: usize, from: u32, to: u32) -
     ensures front { take (len - result) arcs.new ≡ filter (elsewhere from to) (take len arcs.old) }
     ensures count { result ≡ length (filter (between from to) (take len arcs.old)) }
 {
+    // by index, since a lent slice has no `retain`
     let mut next = 0;
     for i in 0..len {
         let arc = arcs[i];
