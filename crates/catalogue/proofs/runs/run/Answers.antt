@@ -10,8 +10,3 @@ loop-call-preserved g c =
     let x = c.call-item.result in
     let e = c.make_call.ensures in
     e.reckoned ∙ ap (λ k. step o k x) c.loop-call.invariant ∙ reckon_more o m c.args.calls.now c.loop-call.call-index x c.loop-call-test.true c.call-item.is
-
-pub returns : goal.returns
-returns g c =
-    let m = g.C.Catalogue.meaning c.args.catalogue.now in
-    record { reckoned = c.loop-call.invariant ∙ ap (reckon g.C.Label.Label.ops m) (take_all _ _ c.loop-call-test.false) }

@@ -28,18 +28,3 @@ returns-then-has_room g c =
       leaves = ap (λ ys. held_over ys m) e ∙ hold_added m xs p s.list may.inside may.out may.unheld room;
       fills = e ∙ ap (λ b. cond b (xs ++ (p ∷ [])) xs) c.if-has_room.ensures.room;
     }
-
-pub returns : goal.returns
-returns g c =
-    let s = c.args.self.now in
-    let m = g.C.Catalogue.meaning s.below in
-    let xs = packages s.own in
-    let p = c.args.p in
-    let may = may_hold m xs p c.in_ok-check_hold.ensures in
-    let full : length xs ≡ 32 = omega (arith, c.has_room.ensures.few, ltb-false 0 (32 - length xs) (sym c.if-has_room.ensures.room)) in
-    let e = c.hold.ensures in
-    record {
-      answers = e.answers ∙ hold_same m xs p s.list may.out full;
-      leaves = ap (held_over xs) e.leaves ∙ hold_passed m xs p s.list may.out full;
-      fills = sym (ap (λ b. cond b (xs ++ (p ∷ [])) xs) (ap (λ b. is_ok c.hold.result && b) (sym c.if-has_room.ensures.room) ∙ and_false (is_ok c.hold.result)));
-    }

@@ -42,19 +42,3 @@ returns-then-taken-eq0 g c =
       answers = sym (refused f t s.arcs.now d.new.arcs o s.n s.len d.result s.ok from_in to_in e.few e.front e.count d.auto.arcs none);
       leaves = unchanged f t s.arcs.now d.new.arcs o s.n s.len d.result s.ok from_in to_in e.few e.front e.count d.auto.arcs none;
     }
-
-pub returns : goal.returns
-returns g c =
-    let o = g.K.Label.ops in
-    let s = c.args.self.now in
-    let d = c.drop_between-taken in
-    let e = d.ensures in
-    let f = c.args.from in
-    let t = c.args.to in
-    let from_in = leb-false s.n f (sym c.if-outside.ensures) in
-    let to_in = leb-false s.n t (sym c.if-outside-2.ensures) in
-    let some = c.if-taken-eq0.false in
-    record {
-      answers = sym (answered f t s.arcs.now d.new.arcs o s.n s.len d.result s.ok from_in to_in e.few e.front e.count d.auto.arcs some);
-      leaves = taken f t s.arcs.now d.new.arcs o s.n s.len d.result s.ok from_in to_in e.few e.front e.count d.auto.arcs some;
-    }
