@@ -92,7 +92,7 @@ pub(crate) fn arc_in<K: Label>(from: u32, arc: &[u8; 8]) -> Option<Arc<K>>
     K::from_word(word).map(|label| Arc { from, to, label })
 }
 
-// A sheet in which all its pairs stand.
+// The bytes of a sheet, long enough for its pairs.
 #[derive(Clone, Copy)]
 pub(crate) struct Reading<'a> {
     pub(crate) bytes: &'a [u8],

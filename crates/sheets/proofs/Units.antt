@@ -6,7 +6,7 @@ use Rattle.std.specs.Simd.{first_chunks}
 use Rattle.sheets.specs.Sheets.{word_at, count_of, offset_of, size_of, entry, entry_at, run_at, run}
 
 -- a field inside a part
-pub word_within : (bytes : List ℕ) (a n i : ℕ) → i + 4 ≤ n → word_at (take n (drop a bytes)) i ≡ word_at bytes (a + i)
+word_within : (bytes : List ℕ) (a n i : ℕ) → i + 4 ≤ n → word_at (take n (drop a bytes)) i ≡ word_at bytes (a + i)
 unfolding word_at
 word_within bytes a n i h =
     let byte : (j m : ℕ) → j < n → a + j ≡ m → slice_index (take n (drop a bytes)) j ≡ slice_index bytes m =

@@ -1,12 +1,10 @@
 use Rattle.std.proofs.Common.{◌≡◌, ◌/◌, length, sym, ap, ◌∙◌, arith}
 use Rattle.std.specs.Simd.{first_chunks}
-use Rattle.std.proofs.lemmas.Result.{err_from_is_err_and}
 use Rattle.catalogue.specs.Refusals.{number}
-use Rattle.catalogue.specs.SheetMeanings.{verdict}
 use Rattle.sheets.specs.Sheets.{entry, entry_check, entry_at}
 use Rattle.sheets.proofs.Checks.{items_more, items_stop}
 use Rattle.sheets.proofs.Units.{entry_read}
-use Rattle.catalogue.proofs.Numbers.{numbered}
+use Rattle.catalogue.proofs.Numbers.{handed_on, numbered}
 use Rattle.catalogue.proofs.reading.check_run.Goals as goal
 
 pub loop-arc-preserved : goal.loop-arc-preserved
@@ -29,7 +27,6 @@ returns-in_err-check_arc g c =
     let item = entry_at run c.args.p 0 in
     let cut : us ≡ first_chunks 8 (length us) run = c.as_chunks.ensures.front ∙ ap (λ k. first_chunks 8 k run) (sym c.as_chunks.ensures.front_len) in
     let e : entry c.args.p c.fields-to.result.0 c.fields-to.result.1 ≡ item j = entry_read run us cut c.args.p j c.fields-to.result.0 c.fields-to.result.1 _ (omega arith) c.fields-to.ensures.first c.fields-to.ensures.second in
-    let p = err_from_is_err_and c.from_residual.result c.from_residual.ensures.1 in
     let why = c.in_err-check_arc.field-0.0 in
-    ap verdict p.1 ∙ ap number p.2
+    handed_on c.from_residual.result why c.from_residual.ensures.1
     ∙ sym (c.loop-arc.invariant ∙ items_stop chk item j (length run / 8) (omega arith) (number why) (ap chk (sym e) ∙ sym c.in_err-check_arc.ensures) (numbered why))

@@ -1,13 +1,11 @@
 use Rattle.std.proofs.Common.{◌≡◌, ◌+◌, ◌-◌, ◌*◌, ◌/◌, ◌≤◌, true, map, length, sym, ap, ◌∙◌, ap₂, leb, ◌&&◌, arith}
 use Rattle.std.proofs.lemmas.Bool.{and_parts, leb-true}
-use Rattle.std.proofs.lemmas.Result.{err_from_is_err_and}
 use Rattle.sheets.specs.Sheets.{count_of, due, entries, first_unmet, count_test, end_test, entry_check}
 use Rattle.sheets.proofs.Stages.{too_short, bad_count, no_table, bad_pair, bad_end, by_arcs}
 use Rattle.sheets.proofs.Passes.{entries_length}
 use Rattle.sheets.proofs.Units.{count_read}
 use Rattle.catalogue.specs.Refusals.{number}
-use Rattle.catalogue.specs.SheetMeanings.{verdict}
-use Rattle.catalogue.proofs.Numbers.{numbered}
+use Rattle.catalogue.proofs.Numbers.{handed_on, numbered}
 use Rattle.catalogue.proofs.reading.check_sheet.Given as given
 use Rattle.catalogue.proofs.reading.check_sheet.Goals as goal
 use Rattle.catalogue.proofs.reading.check_sheet.Goals.{Else-bytes-start, In_ok-end}
@@ -52,9 +50,8 @@ invariant_of-reading g c =
 pub returns-in_err-end-clause-checks : goal.returns-in_err-end-clause-checks
 returns-in_err-end-clause-checks g c =
     let o = opened g (goal.at.returns-in_err-end-clause-checks g c).Else-bytes-start in
-    let q = err_from_is_err_and c.from_residual.result c.from_residual.ensures.1 in
     let why = c.in_err-end.field-0.0 in
-    ap verdict q.1 ∙ ap number q.2 ∙ bad_pair g.K.Label.named c.args.bytes.now c.in-Some.ensures.cases.enough o.limits o.table (number why) c.in_err-end.ensures.checks (numbered why)
+    handed_on c.from_residual.result why c.from_residual.ensures.1 ∙ bad_pair g.K.Label.named c.args.bytes.now c.in-Some.ensures.cases.enough o.limits o.table (number why) c.in_err-end.ensures.checks (numbered why)
 
 -- the pairs are in order, and so many arcs follow
 record Paired (g : given.Over) (c : In_ok-end g) : Type 0 where
@@ -86,8 +83,7 @@ returns-in_err-check_runs-clause-checks g c =
     let bytes = c.args.bytes.now in
     let named = g.K.Label.named in
     let p = paired g (goal.at.returns-in_err-check_runs-clause-checks g c).In_ok-end in
-    let q = err_from_is_err_and c.from_residual-in_err-check_runs.result c.from_residual-in_err-check_runs.ensures.1 in
-    ap verdict q.1 ∙ ap number q.2 ∙ c.in_err-check_runs.ensures ∙ ap (λ k. first_unmet (map (entry_check named k) (entries bytes))) p.opened.n
+    handed_on c.from_residual-in_err-check_runs.result c.in_err-check_runs.field-0.0 c.from_residual-in_err-check_runs.ensures.1 ∙ c.in_err-check_runs.ensures ∙ ap (λ k. first_unmet (map (entry_check named k) (entries bytes))) p.opened.n
     ∙ by_arcs named bytes c.in-Some.ensures.cases.enough p.opened.limits p.opened.table c.in_ok-end.ensures.checks (p.tests ∙ sym c.ends_well.ensures ∙ c.if-not-ends_well.false)
 
 pub returns-clause-checks : goal.returns-clause-checks

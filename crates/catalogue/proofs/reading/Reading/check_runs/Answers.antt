@@ -1,12 +1,10 @@
 use Rattle.std.proofs.Common.{◌≡◌, ◌+◌, ◌≤◌, map, length, sym, ap, ◌∙◌, rules, arith}
-use Rattle.std.proofs.lemmas.Result.{err_from_is_err_and}
 use Rattle.catalogue.specs.Refusals.{number}
-use Rattle.catalogue.specs.SheetMeanings.{verdict}
 use Rattle.sheets.specs.Sheets.{entry_check, run, offset_of, size_of, first_unmet}
 use Rattle.sheets.proofs.Checks.{lists_more, lists_stop}
 use Rattle.sheets.proofs.Pairs.{pairs_ok}
 use Rattle.sheets.proofs.Units.{run_read}
-use Rattle.catalogue.proofs.Numbers.{numbered}
+use Rattle.catalogue.proofs.Numbers.{handed_on, numbered}
 use Rattle.catalogue.proofs.reading.Reading.check_runs.Goals as goal
 
 pub slice_bounds-run-end : goal.slice_bounds-run-end
@@ -38,7 +36,6 @@ returns-in_err-check_run g c =
     let o : c.fields-offset.result.0 ≡ offset_of bytes p = c.fields-offset.ensures.first ∙ c.pairs-pair-items.ensures.offsets p _ (omega arith) in
     let s : c.fields-offset.result.1 ≡ size_of bytes p = c.fields-offset.ensures.second ∙ c.pairs-pair-items.ensures.sizes p _ (omega arith) in
     let e = run_read bytes p c.fields-offset.result.0 c.fields-offset.result.1 o s (omega arith) in
-    let q = err_from_is_err_and c.from_residual.result c.from_residual.ensures.1 in
     let why = c.in_err-check_run.field-0.0 in
-    ap verdict q.1 ∙ ap number q.2
+    handed_on c.from_residual.result why c.from_residual.ensures.1
     ∙ sym (c.loop-p.invariant ∙ lists_stop chk (run bytes) p c.args.self.now.n (omega arith) (number why) (ap (λ xs. first_unmet (map chk xs)) (sym e) ∙ sym c.in_err-check_run.ensures) (numbered why))
