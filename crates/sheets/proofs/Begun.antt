@@ -1,5 +1,5 @@
 -- The pairs whose runs begin at or before a byte come first.
-use Rattle.std.proofs.Common.{◌≡◌, ℕ, ◌+◌, ◌-◌, ◌<◌, ◌≤◌, false, true, leb, List, [], length, get_or, ⊎_elim, arith}
+use Rattle.std.proofs.Common.{◌≡◌, ℕ, ◌<◌, ◌≤◌, false, true, leb, List, [], length, get_or, ⊎_elim, arith}
 use Rattle.std.specs.List.Sorted.{IsPartitionedBy, IsPartitionPoint}
 use Rattle.std.proofs.lemmas.Bool.{cases_lt, leb-true, leb-false}
 use Rattle.std.proofs.lemmas.List.Sorted.{IsPartitionedBy-leb}
@@ -13,11 +13,11 @@ module _ (bytes : List ℕ) (pairs : List (List ℕ)) (at : ℕ) (all : length p
 
   pub parted : first_unmet (pair_checks bytes) ≡ 0 → IsPartitionedBy (λ pair. leb (begins pair) at) pairs
   parted met = IsPartitionedBy-leb begins pairs at
-    (λ (i j : ℕ) (d : List ℕ) below inside.
-    let a = offsets i d (omega arith) in
-    let b = offsets j d (omega arith) in
-    let rise = offsets_rise bytes i j (count_of bytes) below (omega arith) (pairs_ok bytes met) in
-    omega arith)
+      (λ (i j : ℕ) (d : List ℕ) below inside.
+      let a = offsets i d (omega arith) in
+      let b = offsets j d (omega arith) in
+      let rise = offsets_rise bytes i j (count_of bytes) below (omega arith) (pairs_ok bytes met) in
+      omega arith)
 
   module _ (i : ℕ) (point : IsPartitionPoint (λ pair. leb (begins pair) at ≡ true) (λ pair. leb (begins pair) at ≡ false) pairs i) where
     pub begun_before : (p : ℕ) → p < i → p < count_of bytes → offset_of bytes p ≤ at

@@ -1,4 +1,4 @@
-use Rattle.std.proofs.Common.{◌≡◌, ◌+◌, ◌-◌, ◌*◌, ◌/◌, ◌≤◌, true, map, length, sym, ap, ◌∙◌, ap₂, leb, ◌&&◌, arith}
+use Rattle.std.proofs.Common.{◌≡◌, ◌+◌, ◌-◌, ◌*◌, ◌/◌, ◌≤◌, true, map, length, sym, ap, ◌∙◌, ap₂, leb, arith}
 use Rattle.std.proofs.lemmas.Bool.{and_parts, leb-true}
 use Rattle.sheets.specs.Sheets.{count_of, due, entries, first_unmet, count_test, end_test, entry_check}
 use Rattle.sheets.proofs.Stages.{too_short, bad_count, no_table, bad_pair, bad_end, by_arcs}

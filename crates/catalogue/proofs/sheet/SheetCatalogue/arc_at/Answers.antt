@@ -1,6 +1,6 @@
 use Rattle.std.proofs.Common.{◌≡◌, ◌+◌, ◌<◌, ◌≤◌, length, sym, ap, ap₂, ◌∙◌, arith}
 use Rattle.std.proofs.lemmas.Bool.{ltb-true, ltb-false}
-use Rattle.sheets.specs.Sheets.{word_at, count_of, entries}
+use Rattle.sheets.specs.Sheets.{word_at, count_of}
 use Rattle.sheets.proofs.Pairs.{pairs_ok}
 use Rattle.sheets.proofs.Passes.{all_met}
 use Rattle.catalogue.specs.SheetMeanings.{labelled}
