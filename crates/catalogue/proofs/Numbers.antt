@@ -1,8 +1,9 @@
 -- The numbers of the refusals.
-use Rattle.std.proofs.Common.{◌≡◌, ℕ, zero, suc, ◌<◌, Err, sym, refl, ap, ◌∙◌, arith}
+use Rattle.std.proofs.Common.{◌≡◌, ℕ, zero, suc, ◌<◌, Ok, Err, Result, sym, refl, ap, ◌∙◌, arith}
+use Rattle.std.specs.Result.{IsErrAnd}
 use Rattle.catalogue.specs.Refusals.{Refusal, number}
 use Rattle.catalogue.specs.declared.refusal.Refusal.TheVariants.{BadCount, BadSize, BadRun, LabelNone, Sealed, NoPackage, EqualEnds, Full, NoSuchArc, AlreadyHeld, NoHolds, NotHeld, ShortBuffer, NotCommand}
-use Rattle.catalogue.specs.SheetMeanings.{by_number}
+use Rattle.catalogue.specs.SheetMeanings.{verdict, by_number}
 
 pub numbered : (e : Refusal) → 0 < number e
 numbered BadCount = omega arith
@@ -19,6 +20,11 @@ numbered NoHolds = omega arith
 numbered NotHeld = omega arith
 numbered ShortBuffer = omega arith
 numbered NotCommand = omega arith
+
+-- what `?` hands on is the callee's refusal
+pub handed_on : {A : Type 0} (r : Result A Refusal) (e : Refusal) → IsErrAnd r (λ x. x ≡ e) → verdict r ≡ number e
+handed_on (Ok v) e h = elim h [ ]
+handed_on (Err x) e h = ap number h
 
 -- a refusal's answer
 pub refused_by : {A : Type 0} (e : Refusal) (v : ℕ) (m : A) → number e ≡ v → Err (number e) ≡ by_number v m

@@ -1,5 +1,5 @@
 -- What a sheet that meets its checks means.
-use Rattle.std.proofs.Common.{◌≡◌, ℕ, zero, suc, ◌+◌, ◌*◌, ◌<◌, ◌≤◌, true, false, List, map, length, get_or, is_ok, Some, None, Ok, Option, Result, unwrap_or, sym, refl, ap, ◌∙◌}
+use Rattle.std.proofs.Common.{◌≡◌, ℕ, zero, suc, ◌+◌, ◌-◌, ◌*◌, ◌/◌, ◌<◌, ◌≤◌, true, false, List, map, length, get_or, is_ok, Some, None, Ok, Option, Result, unwrap_or, sym, refl, ap, ◌∙◌, arith}
 use lib.ListN.{length-map}
 use Rattle.std.proofs.lemmas.Option.{slice_get_past}
 use Rattle.std.proofs.lemmas.Bool.{false≢true}
@@ -7,7 +7,7 @@ use Rattle.paths.specs.Arcs.{arc}
 use Rattle.sheets.specs.Sheets.{word_at, offset_of, count_of, entries, sheet_check}
 use Rattle.sheets.specs.Layout.{Mark, States}
 use Rattle.sheets.proofs.Stock.{nth_map}
-use Rattle.sheets.proofs.Passes.{entry_found, unnamed_not}
+use Rattle.sheets.proofs.Passes.{all_met, entries_length, entry_found, unnamed_not}
 use Rattle.sheets.proofs.Accepted.{accepts, counts, states}
 use Rattle.sheets.proofs.Unread.{runs_of, states_runs}
 use Rattle.sheets.proofs.Unique.{unique}
@@ -17,6 +17,13 @@ use Rattle.catalogue.specs.SheetMeanings.{labelled, by_number, arc_of, sheet, sh
 
 module _ {L : Type 0} (named : ℕ → Option L) (none : L) (bytes : List ℕ) where
   module _ (met : sheet_check named bytes ≡ 0) where
+    pub arcs_many : (length bytes - (4 + 8 * count_of bytes)) / 8 ≡ length (entries bytes)
+    arcs_many =
+        let m = all_met named bytes met in
+        let total = entries_length named bytes m.pairs in
+        let ends = m.ends in
+        omega arith
+
     -- the place of an arc, and its source
     pub arc_found : (k q at : ℕ) → k < length (entries bytes) → at ≡ 4 + 8 * count_of bytes + 8 * k → q < count_of bytes → offset_of bytes q ≤ at → (q + 1 < count_of bytes → at < offset_of bytes (q + 1))
         → labelled q (word_at bytes at) (named (word_at bytes (at + 4))) ≡ arc_at (sheet named none bytes) k

@@ -1,5 +1,5 @@
 // The parts of the reading of a sheet.
-ghost use Rattle.std.specs.Prelude.{◌≡◌, ◌+◌, ◌*◌, ◌<◌, ◌≤◌, map, length, IfOk};
+ghost use Rattle.std.specs.Prelude.{◌≡◌, ◌+◌, ◌-◌, ◌*◌, ◌/◌, ◌<◌, ◌≤◌, ℕ, List, map, length, slice_index_or, IfOk, nat_le};
 ghost use Rattle.sheets.specs.Sheets.{word_at, count_of, offset_of, size_of, due as due_at, entry, run_at, entries, first_unmet, run_test, end_test, pair_checks, entry_check, sheet_check};
 ghost use Rattle.catalogue.specs.SheetMeanings.{verdict, labelled};
 
@@ -8,50 +8,29 @@ use crate::refusal::Refusal;
 use labels::Label;
 use paths::Arc;
 
-// The field of these four bytes.
-fn lowest_first(a: u8, b: u8, c: u8, d: u8) -> u32
-    ensures { result ≡ a + b * 256 + c * 65536 + d * 16777216 }
+// The 32-bit field of these bytes, lowest byte first.
+#[tactic(auto, unfolding(sheets::specs::Sheets::word_at))]
+fn word(bytes: [u8; 4]) -> u32
+    ensures { result ≡ word_at bytes 0 }
 {
-    u32::from_le_bytes([a, b, c, d])
+    u32::from_le_bytes(bytes)
 }
 
-// The 32-bit field at a byte, lowest byte first.
-fn word(bytes: &[u8], at: usize) -> u32
-    requires { at + 4 ≤ length bytes.now }
-    ensures { result ≡ word_at bytes.now at }
+// The two fields of a pair or of an arc.
+#[tactic(auto, unfolding(sheets::specs::Sheets::word_at))]
+fn fields(unit: &[u8; 8]) -> (u32, u32)
+    ensures first { result.0 ≡ word_at unit.now 0 }
+    ensures second { result.1 ≡ word_at unit.now 4 }
 {
-    lowest_first(bytes[at], bytes[at + 1], bytes[at + 2], bytes[at + 3])
+    let [a, b, c, d, e, f, g, h] = *unit;
+    (word([a, b, c, d]), word([e, f, g, h]))
 }
 
-// Where package `p`'s pair stands; at n, where the pairs end.
-pub(crate) fn pair_at(p: u32) -> usize
-    ensures { result ≡ 4 + 8 * p }
+// Where the pairs end.
+fn pairs_end(n: u32) -> usize
+    ensures { result ≡ 4 + 8 * n }
 {
-    4 + 8 * p as usize
-}
-
-// Where package `p`'s run begins.
-fn run_offset(bytes: &[u8], p: u32) -> u32
-    requires { 8 + 8 * p ≤ length bytes.now }
-    ensures { result ≡ offset_of bytes.now p }
-{
-    word(bytes, pair_at(p))
-}
-
-// How many bytes package `p`'s run has.
-fn run_size(bytes: &[u8], p: u32) -> u32
-    requires { 12 + 8 * p ≤ length bytes.now }
-    ensures { result ≡ size_of bytes.now p }
-{
-    word(bytes, pair_at(p) + 4)
-}
-
-// Where the arc at a place of the stock stands.
-pub(crate) fn place_of(n: u32, k: usize) -> usize
-    requires { k ≤ 65536 }
-    ensures { result ≡ 4 + 8 * n + 8 * k }
-{
-    pair_at(n) + 8 * k
+    4 + 8 * n as usize
 }
 
 // Does the run stand where it is due, with whole arcs, inside the sheet?
@@ -68,22 +47,11 @@ fn ends_well(end: usize, len: usize, arcs: usize) -> bool
     end == len && arcs <= MOST_ARCS
 }
 
-// Checks the pairs; answers where the last run ends.
-fn check_pairs(bytes: &[u8], n: u32) -> Result<usize, Refusal>
-    requires { (n ≡ count_of bytes.now) × ((n ≤ 1024) × (4 + 8 * n ≤ length bytes.now)) }
-    ensures checks { verdict result ≡ first_unmet (pair_checks bytes.now) }
-    ensures ends { IfOk result (λ e. e ≡ due_at bytes.now n) }
+// Does the run of a pair begin at or before a byte?
+fn begins_by(pair: &[u8; 8], at: usize) -> bool
+    ensures { result ≡ nat_le (word_at pair.now 0) at }
 {
-    let mut at = pair_at(n);
-    for p in 0..n {
-        let offset = run_offset(bytes, p);
-        let size = run_size(bytes, p);
-        if !run_fits(offset, size, at, bytes.len()) {
-            return Err(Refusal::BadRun);
-        }
-        at += size as usize;
-    }
-    Ok(at)
+    fields(pair).0 as usize <= at
 }
 
 // Checks one arc.
@@ -103,82 +71,138 @@ fn check_arc<K: Label>(n: u32, from: u32, to: u32, word: u32) -> Result<(), Refu
     Ok(())
 }
 
-// Checks `many` arcs of package `p` from a byte on.
-fn check_run<K: Label>(bytes: &[u8], n: u32, p: u32, at: usize, many: usize) -> Result<(), Refusal>
-    requires { (p < n) × (at + 8 * many ≤ length bytes.now) }
-    ensures { verdict result ≡ first_unmet (map (entry_check K.Label.named n) (run_at bytes.now p at many)) }
+// Checks the arcs of package `p`, which these bytes state.
+fn check_run<K: Label>(n: u32, p: u32, run: &[u8]) -> Result<(), Refusal>
+    requires { p < n }
+    ensures { verdict result ≡ first_unmet (map (entry_check K.Label.named n) (run_at run.now p 0 (length run.now / 8))) }
 {
-    for j in 0..many {
-        let to = word(bytes, at + 8 * j);
-        let label = word(bytes, at + 8 * j + 4);
+    let (arcs, _) = run.as_chunks::<8>();
+    for arc in arcs {
+        let (to, label) = fields(arc);
         check_arc::<K>(n, p, to, label)?;
     }
     Ok(())
 }
 
-// Checks the arcs of all runs.
-fn check_runs<K: Label>(bytes: &[u8], n: u32) -> Result<(), Refusal>
-    requires { (n ≡ count_of bytes.now) × ((n ≤ 1024) × ((4 + 8 * n ≤ length bytes.now) × (first_unmet (pair_checks bytes.now) ≡ 0))) }
-    ensures { verdict result ≡ first_unmet (map (entry_check K.Label.named n) (entries bytes.now)) }
+// The arc of package `from` that these bytes state.
+pub(crate) fn arc_in<K: Label>(from: u32, arc: &[u8; 8]) -> Option<Arc<K>>
+    ensures { result ≡ labelled from (word_at arc.now 0) (K.Label.named (word_at arc.now 4)) }
 {
-    for p in 0..n {
-        let offset = run_offset(bytes, p) as usize;
-        let size = run_size(bytes, p) as usize;
-        check_run::<K>(bytes, n, p, offset, size / 8)?;
-    }
-    Ok(())
+    let (to, word) = fields(arc);
+    K::from_word(word).map(|label| Arc { from, to, label })
 }
 
-// Checks a sheet; answers its n.
-pub(crate) fn check_sheet<K: Label>(bytes: &[u8]) -> Result<u32, Refusal>
-    ensures checks { verdict result ≡ sheet_check K.Label.named bytes.now }
-    ensures count { IfOk result (λ n. n ≡ count_of bytes.now) }
-    ensures long { IfOk result (λ n. 4 + 8 * n ≤ length bytes.now) }
-{
-    if bytes.len() < 4 {
-        return Err(Refusal::BadSize);
+// The bytes of a sheet, long enough for its pairs.
+#[derive(Clone, Copy)]
+pub(crate) struct Reading<'a> {
+    pub(crate) bytes: &'a [u8],
+    pub(crate) n: u32,
+    ghost count: { n ≡ count_of bytes.now },
+    ghost some: { 1 ≤ n },
+    ghost most: { n ≤ 1024 },
+    ghost long: { 4 + 8 * n ≤ length bytes.now },
+}
+
+impl<'a> Reading<'a> {
+    // What follows the first field: the pairs, and then the arcs.
+    fn units(&self) -> &'a [[u8; 8]]
+        ensures len { length result.now ≡ (length self.now.bytes.now - 4) / 8 }
+        ensures first { (k : ℕ) (d : List ℕ) → k < length result.now → word_at (slice_index_or result.now k d) 0 ≡ word_at self.now.bytes.now (4 + 8 * k) }
+        ensures second { (k : ℕ) (d : List ℕ) → k < length result.now → word_at (slice_index_or result.now k d) 4 ≡ word_at self.now.bytes.now (4 + 8 * k + 4) }
+    {
+        let (units, _) = self.bytes[4..].as_chunks::<8>();
+        units
     }
-    let n = word(bytes, 0);
+
+    // The pairs of offset and length.
+    fn pairs(&self) -> &'a [[u8; 8]]
+        ensures len { length result.now ≡ self.now.n }
+        ensures offsets { (p : ℕ) (d : List ℕ) → p < self.now.n → word_at (slice_index_or result.now p d) 0 ≡ offset_of self.now.bytes.now p }
+        ensures sizes { (p : ℕ) (d : List ℕ) → p < self.now.n → word_at (slice_index_or result.now p d) 4 ≡ size_of self.now.bytes.now p }
+    {
+        &self.units()[..self.n as usize]
+    }
+
+    // The arcs of all runs.
+    pub(crate) fn arcs(&self) -> &'a [[u8; 8]]
+        ensures len { length result.now ≡ (length self.now.bytes.now - (4 + 8 * self.now.n)) / 8 }
+        ensures targets { (k : ℕ) (d : List ℕ) → k < length result.now → word_at (slice_index_or result.now k d) 0 ≡ word_at self.now.bytes.now (4 + 8 * self.now.n + 8 * k) }
+        ensures labels { (k : ℕ) (d : List ℕ) → k < length result.now → word_at (slice_index_or result.now k d) 4 ≡ word_at self.now.bytes.now (4 + 8 * self.now.n + 8 * k + 4) }
+    {
+        &self.units()[self.n as usize..]
+    }
+
+    // Where the arc at a place of the stock stands.
+    pub(crate) fn place_of(&self, k: usize) -> usize
+        requires { k ≤ 65536 }
+        ensures { result ≡ 4 + 8 * self.now.n + 8 * k }
+    {
+        pairs_end(self.n) + 8 * k
+    }
+
+    // Checks the pairs; answers where the last run ends.
+    fn check_pairs(&self) -> Result<usize, Refusal>
+        ensures checks { verdict result ≡ first_unmet (pair_checks self.now.bytes.now) }
+        ensures ends { IfOk result (λ e. e ≡ due_at self.now.bytes.now self.now.n) }
+    {
+        let mut at = pairs_end(self.n);
+        for pair in self.pairs() {
+            let (offset, size) = fields(pair);
+            if !run_fits(offset, size, at, self.bytes.len()) {
+                return Err(Refusal::BadRun);
+            }
+            at += size as usize;
+        }
+        Ok(at)
+    }
+
+    // Checks the arcs of all runs.
+    fn check_runs<K: Label>(&self) -> Result<(), Refusal>
+        requires { first_unmet (pair_checks self.now.bytes.now) ≡ 0 }
+        ensures { verdict result ≡ first_unmet (map (entry_check K.Label.named self.now.n) (entries self.now.bytes.now)) }
+    {
+        for (p, pair) in self.pairs().iter().enumerate() {
+            let (offset, size) = fields(pair);
+            let run = &self.bytes[offset as usize..offset as usize + size as usize];
+            check_run::<K>(self.n, p as u32, run)?;
+        }
+        Ok(())
+    }
+
+    // The last package whose run begins at or before a byte.
+    pub(crate) fn source(&self, at: usize) -> u32
+        requires met { first_unmet (pair_checks self.now.bytes.now) ≡ 0 }
+        requires begun { offset_of self.now.bytes.now 0 ≤ at }
+        ensures inside { result < self.now.n }
+        ensures begun { offset_of self.now.bytes.now result ≤ at }
+        ensures last { result + 1 < self.now.n → at < offset_of self.now.bytes.now (result + 1) }
+    {
+        let begun = self.pairs().partition_point(|pair| begins_by(pair, at));
+        begun as u32 - 1
+    }
+}
+
+// Checks a sheet.
+pub(crate) fn check_sheet<K: Label>(bytes: &[u8]) -> Result<Reading<'_>, Refusal>
+    ensures checks { verdict result ≡ sheet_check K.Label.named bytes.now }
+    ensures same { IfOk result (λ reading. reading.bytes.now ≡ bytes.now) }
+{
+    let Some(first) = bytes.first_chunk::<4>() else {
+        return Err(Refusal::BadSize);
+    };
+    let n = word(*first);
     if !count_fits(n) {
         return Err(Refusal::BadCount);
     }
-    let start = pair_at(n);
+    let start = pairs_end(n);
     if bytes.len() < start {
         return Err(Refusal::BadSize);
     }
-    let end = check_pairs(bytes, n)?;
+    let reading = Reading { bytes, n };
+    let end = reading.check_pairs()?;
     if !ends_well(end, bytes.len(), (end - start) / 8) {
         return Err(Refusal::BadSize);
     }
-    check_runs::<K>(bytes, n)?;
-    Ok(n)
-}
-
-// The last package whose run begins at or before a byte.
-pub(crate) fn source(bytes: &[u8], n: u32, at: usize) -> u32
-    requires { (1 ≤ n) × ((n ≤ 1024) × ((4 + 8 * n ≤ length bytes.now) × (offset_of bytes.now 0 ≤ at))) }
-    ensures inside { result < n }
-    ensures begun { offset_of bytes.now result ≤ at }
-    ensures last { result + 1 < n → at < offset_of bytes.now (result + 1) }
-{
-    let mut low = 0;
-    let mut high = n;
-    while high - low > 1 {
-        let mid = low + (high - low) / 2;
-        if run_offset(bytes, mid) as usize <= at {
-            low = mid;
-        } else {
-            high = mid;
-        }
-    }
-    low
-}
-
-// The arc of package `from` that stands at a byte.
-pub(crate) fn arc_in<K: Label>(bytes: &[u8], from: u32, at: usize) -> Option<Arc<K>>
-    requires { at + 8 ≤ length bytes.now }
-    ensures { result ≡ labelled from (word_at bytes.now at) (K.Label.named (word_at bytes.now (at + 4))) }
-{
-    let to = word(bytes, at);
-    K::from_word(word(bytes, at + 4)).map(|label| Arc { from, to, label })
+    reading.check_runs::<K>()?;
+    Ok(reading)
 }

@@ -7,7 +7,7 @@ ghost use Rattle.catalogue.specs.Makings.{sheet_of, first_meaning};
 
 use crate::interface::{Catalogue, Make};
 use crate::limits::check_package;
-use crate::reading::{arc_in, check_sheet, pair_at, place_of, source};
+use crate::reading::{Reading, arc_in, check_sheet};
 use crate::refusal::Refusal;
 use labels::Label;
 use paths::Arc;
@@ -16,22 +16,21 @@ use std::marker::PhantomData;
 // Sealed, with nothing held, no places and no holds.
 #[derive(Drop)]
 pub struct Sheet<'a, K: Label> {
-    n: u32,
+    reading: Reading<'a>,
     arcs: usize,
-    bytes: &'a [u8],
     kind: PhantomData<K>,
-    ghost ok: { SheetOk K.Label.named n arcs bytes.now },
+    ghost ok: { SheetOk K.Label.named reading.n arcs reading.bytes.now },
 }
 
 impl<'a, K: Label> Catalogue for Sheet<'a, K> {
     type Label = K;
 
-    ghost meaning = { λ s. sheet K.Label.named K.Label.ops.none s.bytes.now };
+    ghost meaning = { λ s. sheet K.Label.named K.Label.ops.none s.reading.bytes.now };
 
-    ghost sound = { λ s. sheet_sound K.Label.ops K.Label.named K.Label.unnamed s.bytes.now s.ok.met };
+    ghost sound = { λ s. sheet_sound K.Label.ops K.Label.named K.Label.unnamed s.reading.bytes.now s.ok.met };
 
     fn n(&self) -> u32 {
-        self.n
+        self.reading.n
     }
 
     fn stock_len(&self) -> usize {
@@ -55,12 +54,9 @@ impl<'a, K: Label> Catalogue for Sheet<'a, K> {
     }
 
     fn arc_at(&self, k: usize) -> Option<Arc<K>> {
-        if k >= self.arcs {
-            return None;
-        }
-        let at = place_of(self.n, k);
-        let from = source(self.bytes, self.n, at);
-        arc_in(self.bytes, from, at)
+        let arc = self.reading.arcs().get(k)?;
+        let from = self.reading.source(self.reading.place_of(k));
+        arc_in(from, arc)
     }
 
     fn admit(&mut self, _from: u32, _to: u32, _label: K) -> Result<(), Refusal> {
@@ -72,12 +68,12 @@ impl<'a, K: Label> Catalogue for Sheet<'a, K> {
     }
 
     fn hold(&mut self, p: u32) -> Result<(), Refusal> {
-        check_package(self.n, p)?;
+        check_package(self.reading.n, p)?;
         Err(Refusal::NoHolds)
     }
 
     fn lift(&mut self, p: u32) -> Result<(), Refusal> {
-        check_package(self.n, p)?;
+        check_package(self.reading.n, p)?;
         Err(Refusal::NotHeld)
     }
 }
@@ -86,14 +82,13 @@ impl<'a, K: Label> Make<&'a [u8]> for Sheet<'a, K> {
     ghost first = { λ bytes. first_meaning K.Label.ops K.Label.named (sheet_of bytes.now) };
 
     fn make(bytes: &'a [u8]) -> Result<Sheet<'a, K>, Refusal>
-        ensures answers { meant (λ s. sheet K.Label.named K.Label.ops.none s.bytes.now) result ≡ first_meaning K.Label.ops K.Label.named (sheet_of bytes.now) }
-        ensures exact { Exactly K.Label.named K.Label.ops.none bytes.now (meant (λ s. sheet K.Label.named K.Label.ops.none s.bytes.now) result) }
+        ensures answers { meant (λ s. sheet K.Label.named K.Label.ops.none s.reading.bytes.now) result ≡ first_meaning K.Label.ops K.Label.named (sheet_of bytes.now) }
+        ensures exact { Exactly K.Label.named K.Label.ops.none bytes.now (meant (λ s. sheet K.Label.named K.Label.ops.none s.reading.bytes.now) result) }
     {
-        let n = check_sheet::<K>(bytes)?;
+        let reading = check_sheet::<K>(bytes)?;
         Ok(Sheet {
-            n,
-            arcs: (bytes.len() - pair_at(n)) / 8,
-            bytes,
+            reading,
+            arcs: reading.arcs().len(),
             kind: PhantomData,
         })
     }

@@ -8,3 +8,5 @@ pub mod Written
 pub mod Accepted
 pub mod Unread
 pub mod Unique
+pub mod Units
+pub mod Begun

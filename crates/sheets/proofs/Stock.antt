@@ -60,6 +60,15 @@ module _ (bytes : List ℕ) where
       let placed = (ok (p + d) (omega arith)).placed in
       omega arith
 
+  pub offsets_rise : (i j n : ℕ) → i ≤ j → j < n → Upto n → offset_of bytes i ≤ offset_of bytes j
+  offsets_rise i j n below inside ok =
+      let e : i + (j - i) ≡ j = omega arith in
+      let at : due bytes (i + (j - i)) ≡ due bytes j = ap (due bytes) e in
+      let far = in_order i (j - i) n (omega arith) ok in
+      let placed_i : offset_of bytes i ≡ due bytes i = (ok i (omega arith)).placed in
+      let placed_j : offset_of bytes j ≡ due bytes j = (ok j inside).placed in
+      omega arith
+
   -- the arc at a place, of the runs from p on: it is in the first run, or in a later one
   stated_here : (p k : ℕ) (rest : List Entry) → PairOk bytes p → due bytes p + 8 * k < offset_of bytes p + size_of bytes p → slice_get (run bytes p ++ rest) k ≡ Some (entry_at bytes p (due bytes p) k)
   stated_here p k rest here high =
