@@ -65,9 +65,3 @@ module _ {L : Type 0} (o : Ops L) where
       }
 
 module _ {L : Type 0} where
-  -- what an accepted call leaves, and a refused one
-  pub admit_took : (o : Ops L) (m : Meaning L) (f t : ℕ) (l : L) → admit_answer o m f t l ≡ Ok tt → admitted m f t l ≡ admit_leaves o m f t l
-  admit_took o m f t l e = sym (ap (λ r. cond (is_ok r) (admitted m f t l) m) e)
-
-  pub admit_stood : (o : Ops L) (m : Meaning L) (f t : ℕ) (l : L) (k : ℕ) → admit_answer o m f t l ≡ Err k → m ≡ admit_leaves o m f t l
-  admit_stood o m f t l k e = sym (ap (λ r. cond (is_ok r) (admitted m f t l) m) e)

@@ -29,6 +29,3 @@ module _ {L : Type 0} where
           filled = simp length-set (omega arith);
           sound = subst (Sound o) (sym entered) (admitted_sound o x (ledger n len arcs) f t l ok.sound (admits o (ledger n len arcs) f t l yes));
         }
-
-    pub entry_leaves : ledger n (len + 1) (set arcs len (arc f t l)) ≡ admit_leaves o (ledger n len arcs) f t l
-    entry_leaves = entered ∙ admit_took o (ledger n len arcs) f t l yes

@@ -36,30 +36,6 @@ module _ {L : Type 0} (m : Meaning L) (xs : List ℕ) (p : ℕ) where
 
   -- hold, passed down
   module _ (ok : OwnOk m.held m.n xs) (out : within xs p ≡ false) where
-    pub passed_ok : OwnOk (hold_leaves m p).held (hold_leaves m p).n xs
-    passed_ok =
-        elim (is_ok (hold_answer m p)) as (λ b. OwnOk (cond b (held_too m p) m).held (cond b (held_too m p) m).n xs) [
-          | true ↦ record {
-            apart = ok.apart;
-            fresh = λ q h. or_from (eqb q p) (m.held q) (ne_eqb q p (λ e. both_ways (within xs p) out (ap (within xs) (sym e) ∙ h))) (ok.fresh q h);
-            inside = ok.inside;
-          }
-          | false ↦ ok
-        ]
-
-    pub hold_same : length xs ≡ 32 → hold_answer m p ≡ hold_answer (held_over xs m) p
-    hold_same full =
-        let e : (32 - length xs) + m.holds ≡ m.holds = omega arith in
-        sym (simp (out, e))
-
-    pub hold_passed : length xs ≡ 32 → held_over xs (hold_leaves m p) ≡ hold_leaves (held_over xs m) p
-    hold_passed full =
-        let held : ◌≡◌ {A = ℕ → Bool} (λ q. within xs q || (eqb q p || m.held q)) (λ q. eqb q p || (within xs q || m.held q)) = fun_ext (λ q. or_swap (within xs q) (eqb q p) (m.held q)) in
-        let holds : (32 - length xs) + (m.holds - 1) ≡ ((32 - length xs) + m.holds) - 1 = omega arith in
-        let e : held_over xs (held_too m p) ≡ held_too (held_over xs m) p = λ i. record { n = m.n; stock = m.stock; places = m.places; sealed = m.sealed; held = held i; holds = holds i } in
-        over_cond (held_over xs) (is_ok (hold_answer m p)) (held_too m p) m
-        ∙ ap (λ r. cond (is_ok r) (held_over xs (held_too m p)) (held_over xs m)) (hold_same full)
-        ∙ ap (λ r. cond (is_ok (hold_answer (held_over xs m) p)) r (held_over xs m)) e
 
   -- lift, from the layer's own list
   module _ (ok : OwnOk m.held m.n xs) (there : within xs p ≡ true) where

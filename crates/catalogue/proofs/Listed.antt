@@ -38,12 +38,6 @@ pub any_within : (xs : List ℕ) (p : ℕ) → list_any (λ q. eqb q p) xs ≡ w
 any_within [] p = refl
 any_within (x ∷ xs) p = ap (λ b. b || list_any (λ q. eqb q p) xs) (eqb_sym x p) ∙ ap (λ b. eqb p x || b) (any_within xs p)
 
-pub or_swap : (a b c : Bool) → (a || (b || c)) ≡ (b || (a || c))
-or_swap true true c = refl
-or_swap true false c = refl
-or_swap false true c = refl
-or_swap false false c = refl
-
 pub or_push : (w e h : Bool) → ((w || e) || h) ≡ (e || (w || h))
 or_push true true h = refl
 or_push true false h = refl

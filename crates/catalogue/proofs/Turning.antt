@@ -12,30 +12,15 @@ use Rattle.paths.specs.Arcs.{between, elsewhere, turn}
 use Rattle.catalogue.specs.Meanings.{Meaning, free_ends}
 use Rattle.catalogue.specs.Calls.{arc_at, unheld, matching, outside, admit_answer, admit_leaves, admitted, withdraw_answer, withdraw_leaves, withdrawn}
 use Rattle.catalogue.specs.Turns.{turned}
-use Rattle.catalogue.proofs.Choosing.{or_comm, and_comm, over_cond, kept_by_map}
+use Rattle.std.proofs.Math.Bool.{or_comm, and_comm}
+use Rattle.catalogue.proofs.Choosing.{over_cond, kept_by_map}
 
 module _ {L : Type 0} where
-  turn_at : (m : Meaning L) (xs : List (Arc L)) (k : ℕ) → option_map turn (unheld m (slice_get xs k)) ≡ unheld (turned m) (slice_get (map turn xs) k)
-  turn_at m [] k = refl
-  turn_at m (x ∷ xs) zero =
-      over_cond (option_map turn) (free_ends m x) (Some x) None
-      ∙ ap (λ b. cond (not b) (Some (turn x)) None) (or_comm (m.held x.from) (m.held x.to))
-  turn_at m (x ∷ xs) (suc k) = turn_at m xs k
-
-  pub turned_at : (m : Meaning L) (k : ℕ) → option_map turn (arc_at m k) ≡ arc_at (turned m) k
-  turned_at m k = turn_at m m.stock k
 
   pub admit_turned : (o : Ops L) (m : Meaning L) (f t : ℕ) (l : L) → admit_answer o m t f l ≡ admit_answer o (turned m) f t l
   admit_turned o m f t l =
       let e : eqb t f ≡ eqb f t = grind (arith, nat_tests) in
       rw (or_comm (outside m t) (outside m f), e)
-
-  pub admit_turned_leaves : (o : Ops L) (m : Meaning L) (f t : ℕ) (l : L) → turned (admit_leaves o m t f l) ≡ admit_leaves o (turned m) f t l
-  admit_turned_leaves o m f t l =
-      let s : turned (admitted m t f l) ≡ admitted (turned m) f t l = simp map-append in
-      over_cond turned (is_ok (admit_answer o m t f l)) (admitted m t f l) m
-      ∙ ap (λ r. cond (is_ok r) (turned (admitted m t f l)) (turned m)) (admit_turned o m f t l)
-      ∙ ap (λ r. cond (is_ok (admit_answer o (turned m) f t l)) r (turned m)) s
 
   swapped : (f t : ℕ) → (λ (a : Arc L). between f t (turn a)) ≡ between t f
   swapped f t = fun_ext (λ a. and_comm (eqb a.to f) (eqb a.from t))

@@ -1,5 +1,5 @@
-use Rattle.std.proofs.Common.{ap, ◌∙◌, take_all}
-use Rattle.catalogue.specs.Runs.{step, reckon}
+use Rattle.std.proofs.Common.{ap, ◌∙◌}
+use Rattle.catalogue.specs.Runs.{step}
 use Rattle.catalogue.proofs.Reckoning.{reckon_more}
 use Rattle.catalogue.proofs.runs.run.Goals as goal
 

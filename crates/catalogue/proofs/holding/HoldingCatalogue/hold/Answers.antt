@@ -1,8 +1,7 @@
-use Rattle.std.proofs.Common.{◌≡◌, ◌-◌, ◌<◌, cond, ◌&&◌, [], ◌∷◌, ◌++◌, length, is_ok, sym, ap, ◌∙◌, subst, arith}
-use Rattle.std.proofs.lemmas.Bool.{ltb-true, ltb-false}
+use Rattle.std.proofs.Common.{◌-◌, ◌<◌, cond, [], ◌∷◌, ◌++◌, length, sym, ap, ◌∙◌, subst, arith}
+use Rattle.std.proofs.lemmas.Bool.{ltb-true}
 use Rattle.catalogue.specs.Holds.{packages, OwnOk, held_over}
-use Rattle.catalogue.proofs.Choosing.{and_false}
-use Rattle.catalogue.proofs.Held.{may_hold, added_ok, hold_taken, hold_added, hold_same, hold_passed}
+use Rattle.catalogue.proofs.Held.{may_hold, added_ok, hold_taken, hold_added}
 use Rattle.catalogue.proofs.holding.HoldingCatalogue.hold.Goals as goal
 
 pub invariant_of-self-then-has_room : goal.invariant_of-self-then-has_room

@@ -1,10 +1,7 @@
-use Rattle.std.proofs.Common.{set, Err, sym, ap, ◌∙◌, subst, ap₂}
-use Rattle.std.proofs.lemmas.Result.{err_from_is_err_and}
+use Rattle.std.proofs.Common.{set, sym, subst}
 use Rattle.paths.specs.Arcs.{arc}
-use Rattle.catalogue.specs.Refusals.{answer, number}
-use Rattle.catalogue.specs.Ledgers.{ledger, LedgerOk}
-use Rattle.catalogue.proofs.Accepting.{admit_stood}
-use Rattle.catalogue.proofs.Entries.{has_room, entry_ok, entry_leaves}
+use Rattle.catalogue.specs.Ledgers.{LedgerOk}
+use Rattle.catalogue.proofs.Entries.{entry_ok}
 use Rattle.catalogue.proofs.ledger.LedgerCatalogue.admit.Goals as goal
 
 pub invariant_of-self : goal.invariant_of-self

@@ -1,6 +1,6 @@
 use Rattle.std.proofs.Common.{sym}
 use Rattle.std.proofs.lemmas.Bool.{leb-false}
-use Rattle.catalogue.proofs.Taken.{shrunk_ok, same_ok, refused, unchanged, answered, taken}
+use Rattle.catalogue.proofs.Taken.{shrunk_ok, same_ok, refused, unchanged}
 use Rattle.catalogue.proofs.ledger.LedgerCatalogue.withdraw.Goals as goal
 
 pub invariant_of-self : goal.invariant_of-self
