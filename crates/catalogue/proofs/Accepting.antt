@@ -1,12 +1,12 @@
 -- What an accepted call has met, and that every call leaves a sound meaning.
-use Rattle.std.proofs.Common.{◌≡◌, ℕ, ◌<◌, Bool, true, false, cond, ◌||◌, eqb, [], ◌∷◌, is_ok, Ok, Err, Result, sym, refl, ap, ◌∙◌, arith, length-append}
+use Rattle.std.proofs.Common.{◌≡◌, ℕ, ◌<◌, Bool, true, false, cond, ◌||◌, eqb, [], ◌∷◌, Ok, Err, Result, sym, refl, ap, ◌∙◌, arith, length-append}
 use Rattle.std.proofs.ByRecursion.{All-push, all_kept_by}
 use Rattle.std.proofs.lemmas.List.Filters.{length-filter_both}
 use Rattle.std.proofs.lemmas.Bool.{eqb-false, leb-false, false≢true}
 use Rattle.labels.specs.Algebra.{Ops, Exact}
 use Rattle.paths.specs.Arcs.{arc, between, elsewhere}
 use Rattle.catalogue.specs.Meanings.{Meaning, ArcOk, Sound}
-use Rattle.catalogue.specs.Calls.{outside, is_none, admit_answer, admitted, admit_leaves, withdrawn}
+use Rattle.catalogue.specs.Calls.{outside, is_none, admit_answer, admitted, withdrawn}
 
 -- a refusal is no acceptance
 pub err_ok : {A : Type 0} (k : ℕ) (v : A) → Err k ≡ Ok v → ⊥
@@ -63,5 +63,3 @@ module _ {L : Type 0} (o : Ops L) where
         room = omega arith;
         inside = s.inside;
       }
-
-module _ {L : Type 0} where

@@ -1,12 +1,12 @@
 -- A ledger's arcs.
-use Rattle.std.proofs.Common.{◌≡◌, ℕ, ◌+◌, ◌-◌, ◌<◌, List, [], ◌∷◌, ◌++◌, length, take, set, Ok, sym, ◌∙◌, subst, add-one, arith, length-set, take-suc-set}
+use Rattle.std.proofs.Common.{◌≡◌, ℕ, ◌+◌, ◌-◌, ◌<◌, List, [], ◌∷◌, ◌++◌, length, take, set, Ok, sym, subst, add-one, arith, length-set, take-suc-set}
 use Rattle.labels.specs.Algebra.{Ops, Exact}
 use Rattle.paths.specs.declared.arc.Arc.{Arc}
 use Rattle.paths.specs.Arcs.{arc}
 use Rattle.catalogue.specs.Meanings.{Sound}
-use Rattle.catalogue.specs.Calls.{admit_answer, admitted, admit_leaves}
+use Rattle.catalogue.specs.Calls.{admit_answer, admitted}
 use Rattle.catalogue.specs.Ledgers.{ledger, LedgerOk}
-use Rattle.catalogue.proofs.Accepting.{admits, admitted_sound, admit_took}
+use Rattle.catalogue.proofs.Accepting.{admits, admitted_sound}
 
 module _ {L : Type 0} where
   one_more : (len : ℕ) (arcs : List (Arc L)) (a : Arc L) → len < length arcs → take (len + 1) (set arcs len a) ≡ take len arcs ++ (a ∷ [])

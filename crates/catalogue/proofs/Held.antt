@@ -1,12 +1,12 @@
 -- Holds and lifts in a layer's own list, and passed down.
 use Rattle.std.proofs.Common.{◌≡◌, ℕ, ◌+◌, ◌-◌, ◌<◌, ◌≤◌, Bool, true, false, cond, not, ◌&&◌, ◌||◌, eqb, List, [], ◌∷◌, ◌++◌, length, is_ok, Ok, Err, Result, sym, refl, ap, ◌∙◌, ⊎_elim, arith, length-append}
 use mathlib.Core.Path.{fun_ext}
-use Rattle.std.proofs.lemmas.Bool.{ne_eqb, eqb-true, or_from, or_cases, and_parts, and_right, both_ways, lt-leb, leb-false}
+use Rattle.std.proofs.lemmas.Bool.{ne_eqb, eqb-true, or_from, or_cases, and_parts, and_right, lt-leb, leb-false}
 use Rattle.catalogue.specs.Meanings.{Meaning}
 use Rattle.catalogue.specs.Calls.{outside, hold_answer, hold_leaves, held_too, lift_answer, lift_leaves, lifted}
 use Rattle.catalogue.specs.Lists.{within, without}
 use Rattle.catalogue.specs.Holds.{OwnOk, held_over}
-use Rattle.catalogue.proofs.Listed.{within_push, within_without, once_without, once_push, length_without, or_swap, or_push, shift_not, not_out}
+use Rattle.catalogue.proofs.Listed.{within_push, within_without, once_without, once_push, length_without, or_push, shift_not, not_out}
 use Rattle.catalogue.proofs.Choosing.{over_cond}
 use Rattle.catalogue.proofs.Accepting.{err_ok}
 
@@ -33,9 +33,6 @@ module _ {L : Type 0} (m : Meaning L) (xs : List ℕ) (p : ℕ) where
         let holds : (32 - length (xs ++ (p ∷ []))) + m.holds ≡ ((32 - length xs) + m.holds) - 1 = simp length-append (omega arith) in
         let e : held_over (xs ++ (p ∷ [])) m ≡ held_too (held_over xs m) p = λ i. record { n = m.n; stock = m.stock; places = m.places; sealed = m.sealed; held = held i; holds = holds i } in
         e ∙ sym (ap (λ r. cond (is_ok r) (held_too (held_over xs m) p) (held_over xs m)) (hold_taken room))
-
-  -- hold, passed down
-  module _ (ok : OwnOk m.held m.n xs) (out : within xs p ≡ false) where
 
   -- lift, from the layer's own list
   module _ (ok : OwnOk m.held m.n xs) (there : within xs p ≡ true) where

@@ -1,16 +1,13 @@
 -- The calls and questions on a turned meaning.
-use Rattle.std.proofs.Common.{◌≡◌, ℕ, zero, suc, cond, not, eqb, List, [], ◌∷◌, map, length, is_ok, Some, None, filter, sym, refl, ap, ◌∙◌, arith}
+use Rattle.std.proofs.Common.{◌≡◌, ℕ, cond, not, eqb, map, length, is_ok, filter, sym, ap, ◌∙◌, arith}
 use mathlib.Core.Path.{fun_ext}
 use lib.ListN.{length-map}
-use Rattle.std.specs.Option.{option_map}
-use Rattle.std.specs.List.{slice_get}
-use Rattle.std.proofs.lemmas.List.{map-append}
 use Rattle.std.proofs.lemmas.Bool.Decides.{nat_tests}
 use Rattle.labels.specs.Algebra.{Ops}
 use Rattle.paths.specs.declared.arc.Arc.{Arc}
 use Rattle.paths.specs.Arcs.{between, elsewhere, turn}
-use Rattle.catalogue.specs.Meanings.{Meaning, free_ends}
-use Rattle.catalogue.specs.Calls.{arc_at, unheld, matching, outside, admit_answer, admit_leaves, admitted, withdraw_answer, withdraw_leaves, withdrawn}
+use Rattle.catalogue.specs.Meanings.{Meaning}
+use Rattle.catalogue.specs.Calls.{matching, outside, admit_answer, withdraw_answer, withdraw_leaves, withdrawn}
 use Rattle.catalogue.specs.Turns.{turned}
 use Rattle.std.proofs.Math.Bool.{or_comm, and_comm}
 use Rattle.catalogue.proofs.Choosing.{over_cond, kept_by_map}
