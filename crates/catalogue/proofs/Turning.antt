@@ -13,7 +13,6 @@ use Rattle.std.proofs.Math.Bool.{or_comm, and_comm}
 use Rattle.catalogue.proofs.Choosing.{over_cond, kept_by_map}
 
 module _ {L : Type 0} where
-
   pub admit_turned : (o : Ops L) (m : Meaning L) (f t : ℕ) (l : L) → admit_answer o m t f l ≡ admit_answer o (turned m) f t l
   admit_turned o m f t l =
       let e : eqb t f ≡ eqb f t = grind (arith, nat_tests) in
