@@ -3,30 +3,33 @@ use crate::checks::{check, check_eq};
 use crate::places::blank;
 use catalogue::{Blank, Catalogue, Holding, Layer, Ledger, Make, Refusal};
 use labels::Minutes;
+use paths::Arc;
 use std::test::Fail;
 
-// The answer to the making of a ledger of `n` packages and 3 places.
-fn made(n: u32) -> Result<(), Refusal> {
-    let mut arcs = blank::<Minutes, 3>();
-    let _ = Ledger::make(Blank { n, arcs: &mut arcs })?;
+// The answer to the making of a ledger of `n` packages.
+fn made(n: u32, arcs: &mut [Arc<Minutes>]) -> Result<(), Refusal> {
+    let _ = Ledger::make(Blank { n, arcs })?;
     Ok(())
 }
 
 #[test]
-fn ledger_sizes(rt: HostRuntime) {
-    assert_eq!(rt; made(0), Err(Refusal::BadCount));
-    assert_eq!(rt; made(1), Ok(()));
-    assert_eq!(rt; made(1024), Ok(()));
-    assert_eq!(rt; made(1025), Err(Refusal::BadCount));
-    assert_eq!(rt; made(u32::MAX), Err(Refusal::BadCount));
+fn ledger_sizes(rt: HostRuntime) -> Result<(), Fail> {
+    let mut arcs = blank(rt.alloc(), 3)?;
+    let arcs = arcs.as_mut_slice();
+    assert_eq!(rt; made(0, arcs), Err(Refusal::BadCount));
+    assert_eq!(rt; made(1, arcs), Ok(()));
+    assert_eq!(rt; made(1024, arcs), Ok(()));
+    assert_eq!(rt; made(1025, arcs), Err(Refusal::BadCount));
+    assert_eq!(rt; made(u32::MAX, arcs), Err(Refusal::BadCount));
+    Ok(())
 }
 
 #[test]
 fn largest_ledger(rt: HostRuntime) -> Result<(), Fail> {
-    let mut arcs = blank::<Minutes, 3>();
+    let mut arcs = blank::<Minutes>(rt.alloc(), 3)?;
     let mut ledger = Ledger::make(Blank {
         n: 1024,
-        arcs: &mut arcs,
+        arcs: arcs.as_mut_slice(),
     })?;
     assert_eq!(rt; ledger.places_left(), 3);
     assert_eq!(rt; ledger.admit(1022, 1023, Minutes { value: 7 }), Ok(()));
@@ -43,8 +46,7 @@ fn largest_ledger(rt: HostRuntime) -> Result<(), Fail> {
 
 #[test]
 fn most_places(rt: HostRuntime) -> Result<(), Fail> {
-    let [place] = blank::<Minutes, 1>();
-    let mut arcs = vec![in rt.alloc(); place; 65537]?;
+    let mut arcs = blank::<Minutes>(rt.alloc(), 65537)?;
     let ledger = Ledger::make(Blank {
         n: 2,
         arcs: arcs.as_mut_slice(),
@@ -83,10 +85,10 @@ fn hold_another<C: Catalogue>(c: &mut C, lifted: u32, held: u32) -> Result<(), F
 
 #[test]
 fn most_holds(rt: HostRuntime) -> Result<(), Fail> {
-    let mut arcs = blank::<Minutes, 1>();
+    let mut arcs = blank::<Minutes>(rt.alloc(), 1)?;
     let ledger = Ledger::make(Blank {
         n: 100,
-        arcs: &mut arcs,
+        arcs: arcs.as_mut_slice(),
     })?;
     let mut top = Holding::over(ledger);
     hold_all(&mut top, 32)?;
@@ -95,10 +97,10 @@ fn most_holds(rt: HostRuntime) -> Result<(), Fail> {
 
 #[test]
 fn most_holds_of_two_layers(rt: HostRuntime) -> Result<(), Fail> {
-    let mut arcs = blank::<Minutes, 1>();
+    let mut arcs = blank::<Minutes>(rt.alloc(), 1)?;
     let ledger = Ledger::make(Blank {
         n: 100,
-        arcs: &mut arcs,
+        arcs: arcs.as_mut_slice(),
     })?;
     let mut top = Holding::over(Holding::over(ledger));
     hold_all(&mut top, 64)?;

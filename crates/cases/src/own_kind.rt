@@ -81,10 +81,10 @@ fn check_calls(answers: Answers<Width>, taken: Result<usize, Refusal>) -> Result
 
 #[test]
 fn width_exercised(rt: HostRuntime) -> Result<(), Fail> {
-    let mut arcs = blank::<Width, 4>();
+    let mut arcs = blank::<Width>(rt.alloc(), 4)?;
     let ledger = Ledger::make(Blank {
         n: 3,
-        arcs: &mut arcs,
+        arcs: arcs.as_mut_slice(),
     })?;
     let mut top = Holding::over(ledger);
     run(&mut top, &first_calls());
@@ -98,10 +98,10 @@ fn width_exercised(rt: HostRuntime) -> Result<(), Fail> {
 
 #[test]
 fn frozen_width_exercised(rt: HostRuntime) -> Result<(), Fail> {
-    let mut arcs = blank::<Width, 4>();
+    let mut arcs = blank::<Width>(rt.alloc(), 4)?;
     let ledger = Ledger::make(Blank {
         n: 3,
-        arcs: &mut arcs,
+        arcs: arcs.as_mut_slice(),
     })?;
     let mut holding = Holding::over(ledger);
     run(&mut holding, &first_calls());

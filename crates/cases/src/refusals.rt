@@ -89,10 +89,10 @@ fn with_32_held() -> [Case; 7] {
 
 #[test]
 fn full_ledger(rt: HostRuntime) -> Result<(), Fail> {
-    let mut arcs = blank::<Minutes, 1>();
+    let mut arcs = blank::<Minutes>(rt.alloc(), 1)?;
     let mut ledger = Ledger::make(Blank {
         n: 3,
-        arcs: &mut arcs,
+        arcs: arcs.as_mut_slice(),
     })?;
     check_cases(&mut ledger, &[gives(admit(0, 1, 5), Ok(()))])?;
     check_cases(&mut ledger, &without_holds())?;
@@ -109,10 +109,10 @@ fn sealed_sheet(rt: HostRuntime) -> Result<(), Fail> {
 
 #[test]
 fn frozen_ledger(rt: HostRuntime) -> Result<(), Fail> {
-    let mut arcs = blank::<Minutes, 2>();
+    let mut arcs = blank::<Minutes>(rt.alloc(), 2)?;
     let mut ledger = Ledger::make(Blank {
         n: 3,
-        arcs: &mut arcs,
+        arcs: arcs.as_mut_slice(),
     })?;
     check_cases(&mut ledger, &[gives(admit(0, 1, 5), Ok(()))])?;
     let mut top = Frozen::over(ledger);
@@ -122,10 +122,10 @@ fn frozen_ledger(rt: HostRuntime) -> Result<(), Fail> {
 
 #[test]
 fn holds_and_lifts(rt: HostRuntime) -> Result<(), Fail> {
-    let mut arcs = blank::<Minutes, 1>();
+    let mut arcs = blank::<Minutes>(rt.alloc(), 1)?;
     let ledger = Ledger::make(Blank {
         n: 40,
-        arcs: &mut arcs,
+        arcs: arcs.as_mut_slice(),
     })?;
     let mut top = Holding::over(ledger);
     check_cases(&mut top, &[gives(Call::Lift(0), Err(Refusal::NotHeld))])?;

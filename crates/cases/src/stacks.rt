@@ -53,8 +53,8 @@ fn check_seen(seen: Seen) -> Result<(), Fail> {
 
 #[test]
 fn ledger(rt: HostRuntime) -> Result<(), Fail> {
-    let mut arcs = blank::<Minutes, PLACES>();
-    let mut top = stocked(6, &mut arcs)?;
+    let mut arcs = blank::<Minutes>(rt.alloc(), PLACES)?;
+    let mut top = stocked(6, arcs.as_mut_slice())?;
     let mut reference = reference(rt.alloc(), 6, 0)?;
     let seen = drive(&mut top, &mut reference, CALLS)?;
     assert!(rt; seen.accepted > 0);
@@ -68,8 +68,8 @@ fn ledger(rt: HostRuntime) -> Result<(), Fail> {
 
 #[test]
 fn holding_ledger(rt: HostRuntime) -> Result<(), Fail> {
-    let mut arcs = blank::<Minutes, PLACES>();
-    let mut top = Holding::over(stocked(6, &mut arcs)?);
+    let mut arcs = blank::<Minutes>(rt.alloc(), PLACES)?;
+    let mut top = Holding::over(stocked(6, arcs.as_mut_slice())?);
     let mut reference = reference(rt.alloc(), 6, 32)?;
     let seen = drive(&mut top, &mut reference, CALLS)?;
     assert!(rt; seen.several > 0);
@@ -79,8 +79,8 @@ fn holding_ledger(rt: HostRuntime) -> Result<(), Fail> {
 
 #[test]
 fn turned_holding_ledger(rt: HostRuntime) -> Result<(), Fail> {
-    let mut arcs = blank::<Minutes, PLACES>();
-    let mut top = Turned::over(Holding::over(stocked(6, &mut arcs)?));
+    let mut arcs = blank::<Minutes>(rt.alloc(), PLACES)?;
+    let mut top = Turned::over(Holding::over(stocked(6, arcs.as_mut_slice())?));
     let mut reference = reference(rt.alloc(), 6, 32)?;
     reference.turn();
     let seen = drive(&mut top, &mut reference, CALLS)?;
@@ -91,8 +91,8 @@ fn turned_holding_ledger(rt: HostRuntime) -> Result<(), Fail> {
 
 #[test]
 fn holding_turned_holding_ledger(rt: HostRuntime) -> Result<(), Fail> {
-    let mut arcs = blank::<Minutes, PLACES>();
-    let mut top = Holding::over(Turned::over(Holding::over(stocked(6, &mut arcs)?)));
+    let mut arcs = blank::<Minutes>(rt.alloc(), PLACES)?;
+    let mut top = Holding::over(Turned::over(Holding::over(stocked(6, arcs.as_mut_slice())?)));
     let mut reference = reference(rt.alloc(), 6, 64)?;
     reference.turn();
     let seen = drive(&mut top, &mut reference, CALLS)?;
@@ -104,8 +104,8 @@ fn holding_turned_holding_ledger(rt: HostRuntime) -> Result<(), Fail> {
 // More packages than two lists take, so that holds pass down and run out.
 #[test]
 fn two_lists_run_out(rt: HostRuntime) -> Result<(), Fail> {
-    let mut arcs = blank::<Minutes, PLACES>();
-    let mut top = Holding::over(Turned::over(Holding::over(stocked(110, &mut arcs)?)));
+    let mut arcs = blank::<Minutes>(rt.alloc(), PLACES)?;
+    let mut top = Holding::over(Turned::over(Holding::over(stocked(110, arcs.as_mut_slice())?)));
     let mut reference = reference(rt.alloc(), 110, 64)?;
     reference.turn();
     let seen = drive(&mut top, &mut reference, CALLS)?;
@@ -115,8 +115,8 @@ fn two_lists_run_out(rt: HostRuntime) -> Result<(), Fail> {
 
 #[test]
 fn frozen_holding_ledger(rt: HostRuntime) -> Result<(), Fail> {
-    let mut arcs = blank::<Minutes, PLACES>();
-    let mut top = Frozen::over(Holding::over(stocked(6, &mut arcs)?));
+    let mut arcs = blank::<Minutes>(rt.alloc(), PLACES)?;
+    let mut top = Frozen::over(Holding::over(stocked(6, arcs.as_mut_slice())?));
     let mut reference = reference(rt.alloc(), 6, 32)?;
     reference.seal();
     check_seen(drive(&mut top, &mut reference, CALLS)?)
