@@ -120,9 +120,8 @@ impl<K: Kind> Scene<K> {
     // The calls after the layers are made once below the layer that seals, and once above it.
     fn check_stack(&self, seen: &mut Seen) -> Result<(), Fail> {
         let mut arcs = blank(self.heap, PLACES)?;
-        let mut holding = Holding::over(Turned::over(Holding::over(self.ledger(
-            arcs.as_mut_slice(),
-        )?)));
+        let ledger = self.ledger(arcs.as_mut_slice())?;
+        let mut holding = Holding::over(Turned::over(Holding::over(ledger)));
         let calls = labelled(self.heap, self.then.as_slice())?;
         run(&mut holding, calls.as_slice());
         let mut top = Frozen::over(holding);
