@@ -25,6 +25,7 @@ impl<C: Catalogue> Catalogue for Frozen<C> {
 
     ghost valid = { λ s. C.Catalogue.valid s.below };
 
+    // What is not refused is forwarded method by method: an impl has no shorter form for it.
     fn n(&self) -> u32 {
         self.below.n()
     }
