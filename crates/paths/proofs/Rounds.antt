@@ -1,9 +1,8 @@
 -- A round needs only what the round before changed.
 use Rattle.std.proofs.Common.{◌≡◌, ℕ, suc, ◌<◌, List, sym, ap, ◌∙◌}
-use Rattle.labels.specs.Algebra.{Ops, Laws, Absorbs}
+use Rattle.labels.specs.Algebra.{Ops, Laws}
 use Rattle.paths.specs.Chains.{Arc, Mem, L}
-use Rattle.paths.proofs.Order.{Under, under_left}
-use Rattle.paths.proofs.Steps.{just, unit, before, stay, L_suc, L_step, before_cong, before_join}
+use Rattle.paths.proofs.Steps.{unit, before, stay, L_step, before_cong, before_join}
 
 module _ {K : Type 0} (o : Ops K) (laws : Laws o) (arcs : List (Arc K)) where
   -- D is what the round to m + 1 added, or more: join(L(m), D) = L(m + 1)
@@ -16,10 +15,3 @@ module _ {K : Type 0} (o : Ops K) (laws : Laws o) (arcs : List (Arc K)) where
       (λ a h. ap (o.join (unit o a.to j)) (sym (made a.to j (ends a h) hj)) ∙ sym (laws.join_assoc (unit o a.to j) (L o arcs m a.to j) (D a.to j)))
       ∙ before_join o laws arcs (stay o arcs m) D i j
       ∙ ap (λ x. o.join x (before o arcs D i j)) (sym (L_step o laws arcs m i j))
-
-  -- a round loses nothing
-  pub L_grows : Absorbs o → (m i j : ℕ) → Under o (L o arcs m i j) (L o arcs (suc m) i j)
-  L_grows absorbs m i j =
-      ap (λ x. o.join x (L o arcs m i j)) (L_suc o laws arcs m i j)
-      ∙ under_left o laws absorbs (L o arcs m i j) (just o arcs (suc m) i j)
-      ∙ sym (L_suc o laws arcs m i j)

@@ -5,7 +5,7 @@ use Rattle.labels.specs.Algebra.{Ops, Laws, Absorbs}
 use Rattle.paths.specs.Chains.{Arc, flat, Mem, join_over, chains_upto, label_of, L, IsChain}
 use Rattle.paths.specs.Tables.{through}
 use Rattle.paths.proofs.Joins.{over_append, over_cong, over_flat, over_map, extend_over, over_extend}
-use Rattle.paths.proofs.Order.{Under, under_trans, under_both, under_left, under_right, join_under, extend_left, extend_right, extend_under, under_extend, over_least, over_upper}
+use Rattle.paths.proofs.Order.{Under, under_trans, under_both, under_left, under_right, join_under, extend_left, extend_right, extend_under, over_least, over_upper}
 use Rattle.paths.proofs.Members.{in_chains_upto, of_chains_upto, mem_append, of_flat, of_map}
 use Rattle.paths.proofs.Cut.{chain_under}
 
@@ -162,13 +162,6 @@ module _ {K : Type 0} (o : Ops K) (laws : Laws o) where
               let r = of_flat (λ x. map (λ y. x ++ y) (stage k j).cs) c (stage i k).cs m in
               let t = of_map (λ y. r.0 ++ y) c (stage k j).cs r.2 in
               subst (λ d. Way arcs (suc k) i j d) (sym t.2) (way_append arcs i k j r.0 t.0 ((stage i k).keep r.0 r.1) ((stage k j).keep t.0 t.1))
-
-      -- a stage leaves its own row and column as they are, so it can be done in place
-      pub through_column : (i : ℕ) → through o k T i k ≡ T i k
-      through_column i = extend_under o laws absorbs (T i k) (T k k)
-
-      pub through_row : (j : ℕ) → through o k T k j ≡ T k j
-      through_row j = under_extend o laws absorbs (T k k) (T k j)
 
     -- once all packages are eliminated the table is L(n)
     pub stage_end : (n : ℕ) → ((a : Arc K) → Mem a arcs → a.to < n) → (T : ℕ → ℕ → K) → Stage o arcs n T → (i j : ℕ) → T i j ≡ L o arcs n i j
