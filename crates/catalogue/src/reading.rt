@@ -95,7 +95,7 @@ pub(crate) fn arc_in<K: Label>(from: u32, arc: &[u8; 8]) -> Option<Arc<K>>
 // The bytes of a sheet, long enough for its pairs.
 #[derive(Clone, Copy)]
 pub(crate) struct Reading<'a> {
-    pub(crate) bytes: &'a [u8],
+    bytes: &'a [u8],
     pub(crate) n: u32,
     ghost count: { n ≡ count_of bytes.now },
     ghost some: { 1 ≤ n },
