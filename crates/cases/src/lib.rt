@@ -1,8 +1,8 @@
 // A label kind and a layer of the tests' own, a slow reference catalogue, random numbers, and the tests.
 #![tactic(auto)]
 
-mod calls;
 mod checks;
+mod counts;
 #[cfg(test)]
 mod driving;
 mod frozen;
@@ -10,6 +10,7 @@ mod frozen;
 mod limits;
 #[cfg(test)]
 mod own_kind;
+mod places;
 mod reference;
 #[cfg(test)]
 mod refusals;
@@ -21,9 +22,10 @@ mod stacks;
 mod width;
 mod widths;
 
-pub use calls::number;
 pub use checks::{check, check_eq};
+pub use counts::count;
 pub use frozen::Frozen;
-pub use reference::{Outcome, Record, Reference};
+pub use places::blank;
+pub use reference::Reference;
 pub use rolls::Rolls;
 pub use width::Width;

@@ -1,9 +1,9 @@
 // The tests' own kind and layer, through code that knows neither.
-use crate::calls::number;
 use crate::checks::{check, check_eq};
 use crate::frozen::Frozen;
+use crate::places::blank;
 use crate::width::Width;
-use catalogue::{Blank, Call, Catalogue, Holding, Layer, Ledger, Make, run};
+use catalogue::{Blank, Call, Catalogue, Holding, Layer, Ledger, Make, Refusal, run};
 use exercise::{Answers, Arguments, exercise};
 use labels::Label;
 use paths::Arc;
@@ -63,42 +63,34 @@ fn check_questions(answers: Answers<Width>, sealed: bool) -> Result<(), Fail> {
     check_eq(answers.replies.sealed, sealed)?;
     check(!answers.replies.is_held)?;
     check(answers.replies.can_hold)?;
-    match answers.replies.arc {
-        Some(arc) => {
-            check_eq(arc.from, 0)?;
-            check_eq(arc.to, 1)?;
-            check_eq(arc.label, Width { value: 7 })?;
-            Ok(())
-        }
-        None => Err(Fail::new("no arc")),
-    }
+    let first = Arc {
+        from: 0,
+        to: 1,
+        label: Width { value: 7 },
+    };
+    check_eq(answers.replies.arc, Some(first))
 }
 
-fn check_calls(answers: Answers<Width>, alters: u32) -> Result<(), Fail> {
-    check_eq(number(answers.outcomes.admit), alters)?;
-    check_eq(number(answers.outcomes.hold), 0)?;
-    check_eq(number(answers.outcomes.lift), 0)?;
-    check_eq(number(answers.outcomes.withdraw), alters)?;
-    Ok(())
+// `taken` is the answer to the withdrawal; the admission is refused as that is.
+fn check_calls(answers: Answers<Width>, taken: Result<usize, Refusal>) -> Result<(), Fail> {
+    check_eq(answers.outcomes.admit, taken.map(|_| ()))?;
+    check_eq(answers.outcomes.hold, Ok(()))?;
+    check_eq(answers.outcomes.lift, Ok(()))?;
+    check_eq(answers.outcomes.withdraw, taken)
 }
 
 #[test]
 fn width_exercised(rt: HostRuntime) -> Result<(), Fail> {
-    let label: Width = Width::NONE;
-    let mut arcs = [Arc {
-        from: 0,
-        to: 0,
-        label,
-    }; 4];
+    let mut arcs = blank::<Width>(rt.alloc(), 4)?;
     let ledger = Ledger::make(Blank {
         n: 3,
-        arcs: &mut arcs,
+        arcs: arcs.as_mut_slice(),
     })?;
     let mut top = Holding::over(ledger);
     run(&mut top, &first_calls());
     let answers = exercise(&mut top, arguments());
     check_questions(answers, false)?;
-    check_calls(answers, 0)?;
+    check_calls(answers, Ok(1))?;
     assert!(rt; top.is_held(2));
     assert!(rt; top.arc_at(1).is_none());
     Ok(())
@@ -106,22 +98,17 @@ fn width_exercised(rt: HostRuntime) -> Result<(), Fail> {
 
 #[test]
 fn frozen_width_exercised(rt: HostRuntime) -> Result<(), Fail> {
-    let label: Width = Width::NONE;
-    let mut arcs = [Arc {
-        from: 0,
-        to: 0,
-        label,
-    }; 4];
+    let mut arcs = blank::<Width>(rt.alloc(), 4)?;
     let ledger = Ledger::make(Blank {
         n: 3,
-        arcs: &mut arcs,
+        arcs: arcs.as_mut_slice(),
     })?;
     let mut holding = Holding::over(ledger);
     run(&mut holding, &first_calls());
     let mut top = Frozen::over(holding);
     let answers = exercise(&mut top, arguments());
     check_questions(answers, true)?;
-    check_calls(answers, 5)?;
+    check_calls(answers, Err(Refusal::Sealed))?;
     run(
         &mut top,
         &[Call::Admit(0, 1, Width { value: 7 }), Call::Lift(2)],

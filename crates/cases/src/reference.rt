@@ -1,37 +1,23 @@
 // A catalogue by the rules alone: plain lists, everything counted anew at each question.
+use catalogue::{Call, Refusal};
+use paths::Arc;
 use std::alloc::{AllocError, Global};
 
-#[derive(Clone, Copy, PartialEq, Eq, Debug)]
-pub struct Record {
-    pub from: u32,
-    pub to: u32,
-    pub word: u32,
-}
-
-// 0 where a call is accepted, else the refusal's number; and how many arcs it took out.
-#[derive(Clone, Copy, PartialEq, Eq, Debug)]
-pub struct Outcome {
-    pub number: u32,
-    pub taken: usize,
-}
-
 #[derive(Drop)]
-pub struct Reference {
-    heap: Global,
+pub struct Reference<L> {
     n: u32,
-    // the word of the label none
-    none: u32,
+    // the label none
+    none: L,
     capacity: usize,
     most_held: usize,
     sealed: bool,
-    stock: Vec<Record>,
+    stock: Vec<Arc<L>>,
     held: Vec<u32>,
 }
 
-impl Reference {
-    pub fn new(heap: Global, n: u32, none: u32, capacity: usize, most_held: usize) -> Reference {
+impl<L: Copy + PartialEq> Reference<L> {
+    pub fn new(heap: Global, n: u32, none: L, capacity: usize, most_held: usize) -> Reference<L> {
         Reference {
-            heap,
             n,
             none,
             capacity,
@@ -42,8 +28,20 @@ impl Reference {
         }
     }
 
+    // A layer that seals is laid.
     pub fn seal(&mut self) {
         self.sealed = true;
+    }
+
+    // A layer that exchanges the ends of every arc is laid.
+    pub fn turn(&mut self) {
+        for arc in self.stock.iter_mut() {
+            *arc = Arc {
+                from: arc.to,
+                to: arc.from,
+                label: arc.label,
+            };
+        }
     }
 
     pub fn n(&self) -> u32 {
@@ -63,108 +61,98 @@ impl Reference {
     }
 
     pub fn is_held(&self, p: u32) -> bool {
-        for q in self.held.iter() {
-            if *q == p {
-                return true;
-            }
-        }
-        false
+        self.held.contains(&p)
     }
 
     pub fn can_hold(&self) -> bool {
         self.held.len() < self.most_held
     }
 
-    pub fn arc_at(&self, k: usize) -> Option<Record> {
-        match self.stock.get(k) {
-            Some(record) => {
-                if self.is_held(record.from) || self.is_held(record.to) {
-                    None
-                } else {
-                    Some(*record)
-                }
-            }
-            None => None,
+    pub fn arc_at(&self, k: usize) -> Option<Arc<L>> {
+        let arc = *self.stock.get(k)?;
+        if self.is_held(arc.from) || self.is_held(arc.to) {
+            None
+        } else {
+            Some(arc)
         }
     }
 
-    pub fn admit(&mut self, from: u32, to: u32, word: u32) -> Result<Outcome, AllocError> {
+    // Makes each call in turn, whatever it answers.
+    pub fn run(&mut self, calls: &[Call<L>]) -> Result<(), AllocError> {
+        for call in calls {
+            let _ = self.call(*call)?;
+        }
+        Ok(())
+    }
+
+    // How many arcs the call took out, or why it was refused.
+    pub fn call(&mut self, call: Call<L>) -> Result<Result<usize, Refusal>, AllocError> {
+        match call {
+            Call::Admit(from, to, label) => self.admit(Arc { from, to, label }),
+            Call::Withdraw(from, to) => Ok(self.withdraw(from, to)),
+            Call::Hold(p) => self.hold(p),
+            Call::Lift(p) => Ok(self.lift(p)),
+        }
+    }
+
+    fn admit(&mut self, arc: Arc<L>) -> Result<Result<usize, Refusal>, AllocError> {
         if self.sealed {
-            return Ok(refused(5));
+            return Ok(Err(Refusal::Sealed));
         }
-        if from >= self.n || to >= self.n {
-            return Ok(refused(6));
+        if arc.from >= self.n || arc.to >= self.n {
+            return Ok(Err(Refusal::NoPackage));
         }
-        if from == to {
-            return Ok(refused(7));
+        if arc.from == arc.to {
+            return Ok(Err(Refusal::EqualEnds));
         }
-        if word == self.none {
-            return Ok(refused(4));
+        if arc.label == self.none {
+            return Ok(Err(Refusal::LabelNone));
         }
         if self.places_left() == 0 {
-            return Ok(refused(8));
+            return Ok(Err(Refusal::Full));
         }
-        self.stock.push(Record { from, to, word })?;
-        Ok(accepted(0))
+        self.stock.push(arc)?;
+        Ok(Ok(0))
     }
 
-    pub fn withdraw(&mut self, from: u32, to: u32) -> Result<Outcome, AllocError> {
+    fn withdraw(&mut self, from: u32, to: u32) -> Result<usize, Refusal> {
         if self.sealed {
-            return Ok(refused(5));
+            return Err(Refusal::Sealed);
         }
         if from >= self.n || to >= self.n {
-            return Ok(refused(6));
+            return Err(Refusal::NoPackage);
         }
-        let mut rest = Vec::new(self.heap);
-        for record in self.stock.iter() {
-            if record.from != from || record.to != to {
-                rest.push(*record)?;
-            }
-        }
-        let taken = self.stock.len().saturating_sub(rest.len());
+        let before = self.stock.len();
+        self.stock.retain(|arc| arc.from != from || arc.to != to);
+        let taken = before - self.stock.len();
         if taken == 0 {
-            return Ok(refused(9));
+            return Err(Refusal::NoSuchArc);
         }
-        self.stock = rest;
-        Ok(accepted(taken))
+        Ok(taken)
     }
 
-    pub fn hold(&mut self, p: u32) -> Result<Outcome, AllocError> {
+    fn hold(&mut self, p: u32) -> Result<Result<usize, Refusal>, AllocError> {
         if p >= self.n {
-            return Ok(refused(6));
+            return Ok(Err(Refusal::NoPackage));
         }
         if self.is_held(p) {
-            return Ok(refused(10));
+            return Ok(Err(Refusal::AlreadyHeld));
         }
         if !self.can_hold() {
-            return Ok(refused(11));
+            return Ok(Err(Refusal::NoHolds));
         }
         self.held.push(p)?;
-        Ok(accepted(0))
+        Ok(Ok(0))
     }
 
-    pub fn lift(&mut self, p: u32) -> Result<Outcome, AllocError> {
+    fn lift(&mut self, p: u32) -> Result<usize, Refusal> {
         if p >= self.n {
-            return Ok(refused(6));
+            return Err(Refusal::NoPackage);
         }
         if !self.is_held(p) {
-            return Ok(refused(12));
+            return Err(Refusal::NotHeld);
         }
-        let mut rest = Vec::new(self.heap);
-        for q in self.held.iter() {
-            if *q != p {
-                rest.push(*q)?;
-            }
-        }
-        self.held = rest;
-        Ok(accepted(0))
+        self.held.retain(|q| *q != p);
+        Ok(0)
     }
-}
-
-fn accepted(taken: usize) -> Outcome {
-    Outcome { number: 0, taken }
-}
-
-fn refused(number: u32) -> Outcome {
-    Outcome { number, taken: 0 }
 }

@@ -1,10 +1,10 @@
-// Calls for which several checks fail: the first gives the number.
-use crate::calls::number;
+// Calls for which several checks fail: the first is the answer.
 use crate::checks::check_eq;
 use crate::frozen::Frozen;
-use catalogue::{Blank, Call, Catalogue, Holding, Layer, Ledger, Make, Sheet, make_call};
-use labels::{Label, Minutes};
-use paths::Arc;
+use crate::limits::hold_all;
+use crate::places::blank;
+use catalogue::{Blank, Call, Catalogue, Holding, Layer, Ledger, Make, Refusal, Sheet, make_call};
+use labels::Minutes;
 use std::test::Fail;
 
 const NONE: u32 = 4294967295;
@@ -13,23 +13,20 @@ fn admit(from: u32, to: u32, value: u32) -> Call<Minutes> {
     Call::Admit(from, to, Minutes { value })
 }
 
-// A call, and the number of its answer.
+// A call, and its answer.
 #[derive(Clone, Copy)]
 struct Case {
     call: Call<Minutes>,
-    number: u32,
+    answer: Result<(), Refusal>,
 }
 
-fn gives(call: Call<Minutes>, number: u32) -> Case {
-    Case { call, number }
+fn gives(call: Call<Minutes>, answer: Result<(), Refusal>) -> Case {
+    Case { call, answer }
 }
 
-fn check_cases<C: Catalogue<Label = Minutes>>(c: &mut C, cases: &[Case]) -> Result<(), Fail>
-    requires { C.Catalogue.valid c.old }
-    ensures { C.Catalogue.valid c.new }
-{
+fn check_cases<C: Catalogue<Label = Minutes>>(c: &mut C, cases: &[Case]) -> Result<(), Fail> {
     for case in cases {
-        check_eq(number(make_call(c, case.call)), case.number)?;
+        check_eq(make_call(c, case.call), case.answer)?;
     }
     Ok(())
 }
@@ -37,69 +34,64 @@ fn check_cases<C: Catalogue<Label = Minutes>>(c: &mut C, cases: &[Case]) -> Resu
 // On 3 packages, with no place left, and one arc, from 0 to 1.
 fn full() -> [Case; 12] {
     [
-        gives(admit(3, 3, NONE), 6),
-        gives(admit(0, 3, NONE), 6),
-        gives(admit(4294967295, 0, 5), 6),
-        gives(admit(2, 2, NONE), 7),
-        gives(admit(2, 2, 5), 7),
-        gives(admit(0, 1, NONE), 4),
-        gives(admit(0, 1, 5), 8),
-        gives(Call::Withdraw(3, 0), 6),
-        gives(Call::Withdraw(0, 3), 6),
-        gives(Call::Withdraw(0, 2), 9),
-        gives(Call::Withdraw(1, 0), 9),
-        gives(Call::Withdraw(0, 1), 0),
+        gives(admit(3, 3, NONE), Err(Refusal::NoPackage)),
+        gives(admit(0, 3, NONE), Err(Refusal::NoPackage)),
+        gives(admit(4294967295, 0, 5), Err(Refusal::NoPackage)),
+        gives(admit(2, 2, NONE), Err(Refusal::EqualEnds)),
+        gives(admit(2, 2, 5), Err(Refusal::EqualEnds)),
+        gives(admit(0, 1, NONE), Err(Refusal::LabelNone)),
+        gives(admit(0, 1, 5), Err(Refusal::Full)),
+        gives(Call::Withdraw(3, 0), Err(Refusal::NoPackage)),
+        gives(Call::Withdraw(0, 3), Err(Refusal::NoPackage)),
+        gives(Call::Withdraw(0, 2), Err(Refusal::NoSuchArc)),
+        gives(Call::Withdraw(1, 0), Err(Refusal::NoSuchArc)),
+        gives(Call::Withdraw(0, 1), Ok(())),
     ]
 }
 
 // Sealed, on 3 packages or fewer.
 fn sealed() -> [Case; 6] {
     [
-        gives(admit(3, 3, NONE), 5),
-        gives(admit(1, 1, NONE), 5),
-        gives(admit(0, 1, 5), 5),
-        gives(Call::Withdraw(3, 3), 5),
-        gives(Call::Withdraw(1, 0), 5),
-        gives(Call::Withdraw(0, 1), 5),
+        gives(admit(3, 3, NONE), Err(Refusal::Sealed)),
+        gives(admit(1, 1, NONE), Err(Refusal::Sealed)),
+        gives(admit(0, 1, 5), Err(Refusal::Sealed)),
+        gives(Call::Withdraw(3, 3), Err(Refusal::Sealed)),
+        gives(Call::Withdraw(1, 0), Err(Refusal::Sealed)),
+        gives(Call::Withdraw(0, 1), Err(Refusal::Sealed)),
     ]
 }
 
 // With no holds, on 3 packages or fewer.
 fn without_holds() -> [Case; 4] {
     [
-        gives(Call::Hold(3), 6),
-        gives(Call::Hold(0), 11),
-        gives(Call::Lift(3), 6),
-        gives(Call::Lift(0), 12),
+        gives(Call::Hold(3), Err(Refusal::NoPackage)),
+        gives(Call::Hold(0), Err(Refusal::NoHolds)),
+        gives(Call::Lift(3), Err(Refusal::NoPackage)),
+        gives(Call::Lift(0), Err(Refusal::NotHeld)),
     ]
 }
 
 // On 40 packages, with the first 32 held, and no holds left.
 fn with_32_held() -> [Case; 7] {
     [
-        gives(Call::Hold(40), 6),
-        gives(Call::Hold(31), 10),
-        gives(Call::Hold(32), 11),
-        gives(Call::Lift(40), 6),
-        gives(Call::Lift(32), 12),
-        gives(Call::Lift(31), 0),
-        gives(Call::Lift(31), 12),
+        gives(Call::Hold(40), Err(Refusal::NoPackage)),
+        gives(Call::Hold(31), Err(Refusal::AlreadyHeld)),
+        gives(Call::Hold(32), Err(Refusal::NoHolds)),
+        gives(Call::Lift(40), Err(Refusal::NoPackage)),
+        gives(Call::Lift(32), Err(Refusal::NotHeld)),
+        gives(Call::Lift(31), Ok(())),
+        gives(Call::Lift(31), Err(Refusal::NotHeld)),
     ]
 }
 
 #[test]
 fn full_ledger(rt: HostRuntime) -> Result<(), Fail> {
-    let label = Minutes::NONE;
-    let mut arcs = [Arc {
-        from: 0,
-        to: 0,
-        label,
-    }; 1];
+    let mut arcs = blank::<Minutes>(rt.alloc(), 1)?;
     let mut ledger = Ledger::make(Blank {
         n: 3,
-        arcs: &mut arcs,
+        arcs: arcs.as_mut_slice(),
     })?;
-    check_cases(&mut ledger, &[gives(admit(0, 1, 5), 0)])?;
+    check_cases(&mut ledger, &[gives(admit(0, 1, 5), Ok(()))])?;
     check_cases(&mut ledger, &without_holds())?;
     check_cases(&mut ledger, &full())
 }
@@ -114,47 +106,50 @@ fn sealed_sheet(rt: HostRuntime) -> Result<(), Fail> {
 
 #[test]
 fn frozen_ledger(rt: HostRuntime) -> Result<(), Fail> {
-    let label = Minutes::NONE;
-    let mut arcs = [Arc {
-        from: 0,
-        to: 0,
-        label,
-    }; 2];
+    let mut arcs = blank::<Minutes>(rt.alloc(), 2)?;
     let mut ledger = Ledger::make(Blank {
         n: 3,
-        arcs: &mut arcs,
+        arcs: arcs.as_mut_slice(),
     })?;
-    check_cases(&mut ledger, &[gives(admit(0, 1, 5), 0)])?;
+    check_cases(&mut ledger, &[gives(admit(0, 1, 5), Ok(()))])?;
     let mut top = Frozen::over(ledger);
     check_cases(&mut top, &sealed())?;
     check_cases(&mut top, &without_holds())
 }
 
-// Holds packages 0 to 31.
-fn hold_32<C: Catalogue<Label = Minutes>>(c: &mut C) -> Result<(), Fail>
-    requires { C.Catalogue.valid c.old }
-    ensures { C.Catalogue.valid c.new }
-{
-    for p in 0..32 {
-        check_eq(number(c.hold(p)), 0)?;
-    }
-    Ok(())
-}
-
 #[test]
 fn holds_and_lifts(rt: HostRuntime) -> Result<(), Fail> {
-    let label = Minutes::NONE;
-    let mut arcs = [Arc {
-        from: 0,
-        to: 0,
-        label,
-    }; 1];
+    let mut arcs = blank::<Minutes>(rt.alloc(), 1)?;
     let ledger = Ledger::make(Blank {
         n: 40,
-        arcs: &mut arcs,
+        arcs: arcs.as_mut_slice(),
     })?;
     let mut top = Holding::over(ledger);
-    check_cases(&mut top, &[gives(Call::Lift(0), 12)])?;
-    hold_32(&mut top)?;
+    check_cases(&mut top, &[gives(Call::Lift(0), Err(Refusal::NotHeld))])?;
+    hold_all(&mut top, 32)?;
     check_cases(&mut top, &with_32_held())
+}
+
+// The numbers by which the rules know the refusals.
+#[test]
+fn numbers(rt: HostRuntime) {
+    let numbers = [
+        (Refusal::BadCount, 1),
+        (Refusal::BadSize, 2),
+        (Refusal::BadRun, 3),
+        (Refusal::LabelNone, 4),
+        (Refusal::Sealed, 5),
+        (Refusal::NoPackage, 6),
+        (Refusal::EqualEnds, 7),
+        (Refusal::Full, 8),
+        (Refusal::NoSuchArc, 9),
+        (Refusal::AlreadyHeld, 10),
+        (Refusal::NoHolds, 11),
+        (Refusal::NotHeld, 12),
+        (Refusal::ShortBuffer, 13),
+        (Refusal::NotCommand, 16),
+    ];
+    for (refusal, number) in numbers {
+        assert_eq!(rt; u32::from(refusal), number);
+    }
 }

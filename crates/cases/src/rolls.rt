@@ -16,7 +16,7 @@ impl Rolls {
     pub fn below(&mut self, end: u32) -> u32 {
         self.state = self.state.wrapping_mul(1664525).wrapping_add(1013904223);
         let high = self.state >> 12;
-        if end == 0 { 0 } else { high % end }
+        high.checked_rem(end).unwrap_or(0)
     }
 
     // A call on a catalogue of `n` packages: a package number can be `n` too, ends can be equal, and

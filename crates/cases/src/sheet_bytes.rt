@@ -1,11 +1,9 @@
 // Sheets as bytes: what is read, and what each wrong sheet is refused by.
-use crate::calls::number;
 use crate::checks::check_eq;
-use crate::driving::record;
-use crate::reference::Record;
 use crate::width::Width;
-use catalogue::{Catalogue, Make, Sheet};
+use catalogue::{Catalogue, Make, Refusal, Sheet};
 use labels::{Label, Licence, Minutes, Reach};
+use paths::Arc;
 use std::alloc::{AllocError, Global};
 use std::test::Fail;
 
@@ -19,12 +17,12 @@ fn reads_a_sheet(rt: HostRuntime) -> Result<(), Fail> {
     assert!(rt; sheet.sealed());
     assert!(rt; !sheet.is_held(0));
     assert!(rt; !sheet.can_hold());
-    let first = Record {
+    let first = Arc {
         from: 0,
         to: 1,
-        word: 5,
+        label: Minutes { value: 5 },
     };
-    assert_eq!(rt; record(sheet.arc_at(0), false), Some(first));
+    assert_eq!(rt; sheet.arc_at(0), Some(first));
     assert!(rt; sheet.arc_at(1).is_none());
     Ok(())
 }
@@ -33,39 +31,42 @@ fn reads_a_sheet(rt: HostRuntime) -> Result<(), Fail> {
 fn refuses_a_byte_more(rt: HostRuntime) {
     let bytes = b"\x02\0\0\0\x14\0\0\0\x08\0\0\0\x1c\0\0\0\0\0\0\0\x01\0\0\0\x05\0\0\0\0";
     let longer: Result<Sheet<Minutes>, _> = Sheet::make(bytes);
-    assert_eq!(rt; number(longer), 2);
+    assert_eq!(rt; longer.map(|_| ()), Err(Refusal::BadSize));
 }
 
 // The answer to the reading of these words, less the last `cut` bytes.
-fn read<K: Label>(heap: Global, words: &[u32], cut: usize) -> Result<u32, AllocError> {
-    let mut bytes = Vec::new(heap);
-    for word in words {
-        bytes.extend_from_slice(&word.to_le_bytes())?;
-    }
+fn read<K: Label>(
+    heap: Global,
+    words: &[u32],
+    cut: usize,
+) -> Result<Result<(), Refusal>, AllocError> {
+    let mut bytes: Vec<u8> = words
+        .iter()
+        .flat_map(|word| word.to_le_bytes())
+        .collect(heap)?;
     bytes.truncate(bytes.len().saturating_sub(cut));
-    let sheet: Result<Sheet<K>, _> = Sheet::make(bytes.as_slice());
-    Ok(number(sheet))
+    Ok(Sheet::<K>::make(bytes.as_slice()).map(|_| ()))
 }
 
-// A sheet's words, the bytes to cut from their end, and the number of the answer.
+// A sheet's words, the bytes to cut from their end, and the answer.
 #[derive(Clone, Copy)]
 struct Case<'a> {
     words: &'a [u32],
     cut: usize,
-    number: u32,
+    answer: Result<(), Refusal>,
 }
 
-fn gives(words: &[u32], number: u32) -> Case<'_> {
-    cut_gives(words, 0, number)
+fn gives(words: &[u32], answer: Result<(), Refusal>) -> Case<'_> {
+    cut_gives(words, 0, answer)
 }
 
-fn cut_gives(words: &[u32], cut: usize, number: u32) -> Case<'_> {
-    Case { words, cut, number }
+fn cut_gives(words: &[u32], cut: usize, answer: Result<(), Refusal>) -> Case<'_> {
+    Case { words, cut, answer }
 }
 
 fn check_cases(heap: Global, cases: &[Case]) -> Result<(), Fail> {
     for case in cases {
-        check_eq(read::<Minutes>(heap, case.words, case.cut)?, case.number)?;
+        check_eq(read::<Minutes>(heap, case.words, case.cut)?, case.answer)?;
     }
     Ok(())
 }
@@ -73,17 +74,17 @@ fn check_cases(heap: Global, cases: &[Case]) -> Result<(), Fail> {
 #[test]
 fn sizes_and_counts(rt: HostRuntime) -> Result<(), Fail> {
     let cases = [
-        gives(&[], 2),
+        gives(&[], Err(Refusal::BadSize)),
         // too short before n is read
-        cut_gives(&[0], 1, 2),
+        cut_gives(&[0], 1, Err(Refusal::BadSize)),
         // n before the table
-        gives(&[0], 1),
-        gives(&[1025], 1),
-        gives(&[1024], 2),
-        gives(&[1, 12, 0], 0),
+        gives(&[0], Err(Refusal::BadCount)),
+        gives(&[1025], Err(Refusal::BadCount)),
+        gives(&[1024], Err(Refusal::BadSize)),
+        gives(&[1, 12, 0], Ok(())),
         // the table's length before its pairs
-        cut_gives(&[1, 99, 0], 1, 2),
-        gives(&[2, 99, 8, 28], 2),
+        cut_gives(&[1, 99, 0], 1, Err(Refusal::BadSize)),
+        gives(&[2, 99, 8, 28], Err(Refusal::BadSize)),
     ];
     check_cases(rt.alloc(), &cases)
 }
@@ -91,18 +92,18 @@ fn sizes_and_counts(rt: HostRuntime) -> Result<(), Fail> {
 #[test]
 fn pairs(rt: HostRuntime) -> Result<(), Fail> {
     let cases = [
-        gives(&[2, 20, 8, 28, 0, 1, 5], 0),
+        gives(&[2, 20, 8, 28, 0, 1, 5], Ok(())),
         // offsets
-        gives(&[2, 24, 8, 32, 0, 1, 5], 3),
-        gives(&[2, 20, 8, 20, 0, 1, 5], 3),
+        gives(&[2, 24, 8, 32, 0, 1, 5], Err(Refusal::BadRun)),
+        gives(&[2, 20, 8, 20, 0, 1, 5], Err(Refusal::BadRun)),
         // lengths
-        gives(&[2, 20, 4, 24, 0, 1], 3),
-        gives(&[2, 20, 12, 32, 0, 1, 5, 0], 3),
+        gives(&[2, 20, 4, 24, 0, 1], Err(Refusal::BadRun)),
+        gives(&[2, 20, 12, 32, 0, 1, 5, 0], Err(Refusal::BadRun)),
         // runs past the end
-        gives(&[2, 20, 16, 36, 0, 1, 5], 3),
-        gives(&[2, 20, 4294967288, 12, 0, 1, 5], 3),
+        gives(&[2, 20, 16, 36, 0, 1, 5], Err(Refusal::BadRun)),
+        gives(&[2, 20, 4294967288, 12, 0, 1, 5], Err(Refusal::BadRun)),
         // pairs before what is after the last run, and before arcs
-        cut_gives(&[2, 20, 4, 24, 0, 9, 5, 0], 3, 3),
+        cut_gives(&[2, 20, 4, 24, 0, 9, 5, 0], 3, Err(Refusal::BadRun)),
     ];
     check_cases(rt.alloc(), &cases)
 }
@@ -111,31 +112,29 @@ fn pairs(rt: HostRuntime) -> Result<(), Fail> {
 fn arcs(rt: HostRuntime) -> Result<(), Fail> {
     let cases = [
         // bytes after the last run before arcs
-        cut_gives(&[2, 20, 8, 28, 0, 1, 5, 0], 3, 2),
-        cut_gives(&[2, 20, 8, 28, 0, 9, 5, 0], 3, 2),
+        cut_gives(&[2, 20, 8, 28, 0, 1, 5, 0], 3, Err(Refusal::BadSize)),
+        cut_gives(&[2, 20, 8, 28, 0, 9, 5, 0], 3, Err(Refusal::BadSize)),
         // target, ends, label
-        gives(&[2, 20, 8, 28, 0, 2, 4294967295], 6),
-        gives(&[2, 20, 8, 28, 0, 0, 4294967295], 7),
-        gives(&[2, 20, 8, 28, 0, 1, 4294967295], 4),
+        gives(&[2, 20, 8, 28, 0, 2, 4294967295], Err(Refusal::NoPackage)),
+        gives(&[2, 20, 8, 28, 0, 0, 4294967295], Err(Refusal::EqualEnds)),
+        gives(&[2, 20, 8, 28, 0, 1, 4294967295], Err(Refusal::LabelNone)),
         // all checks of an arc before those of the next
-        gives(&[2, 20, 16, 36, 0, 1, 4294967295, 9, 5], 4),
-        gives(&[2, 20, 16, 36, 0, 0, 5, 9, 5], 7),
+        gives(
+            &[2, 20, 16, 36, 0, 1, 4294967295, 9, 5],
+            Err(Refusal::LabelNone),
+        ),
+        gives(&[2, 20, 16, 36, 0, 0, 5, 9, 5], Err(Refusal::EqualEnds)),
         // the run that an arc stands in gives its other end
-        gives(&[2, 20, 0, 20, 8, 1, 5], 7),
-        gives(&[2, 20, 0, 20, 8, 0, 5], 0),
+        gives(&[2, 20, 0, 20, 8, 1, 5], Err(Refusal::EqualEnds)),
+        gives(&[2, 20, 0, 20, 8, 0, 5], Ok(())),
     ];
     check_cases(rt.alloc(), &cases)
 }
 
-// The answer where the one arc has this word.
-fn read_word<K: Label>(heap: Global, word: u32) -> Result<u32, AllocError> {
-    read::<K>(heap, &[2, 20, 8, 28, 0, 1, word], 0)
-}
-
-// Words, and the number of the answer to each.
-fn check_words<K: Label>(heap: Global, cases: &[(u32, u32)]) -> Result<(), Fail> {
-    for case in cases {
-        check_eq(read_word::<K>(heap, case.0)?, case.1)?;
+// Words of the one arc, and the answer to each.
+fn check_words<K: Label>(heap: Global, cases: &[(u32, Result<(), Refusal>)]) -> Result<(), Fail> {
+    for (word, answer) in cases {
+        check_eq(read::<K>(heap, &[2, 20, 8, 28, 0, 1, *word], 0)?, *answer)?;
     }
     Ok(())
 }
@@ -143,14 +142,28 @@ fn check_words<K: Label>(heap: Global, cases: &[(u32, u32)]) -> Result<(), Fail>
 #[test]
 fn words_of_each_kind(rt: HostRuntime) -> Result<(), Fail> {
     let heap = rt.alloc();
-    check_words::<Minutes>(heap, &[(0, 0), (4294967294, 0), (4294967295, 4)])?;
-    check_words::<Reach>(heap, &[(0, 4), (1, 0), (2, 4)])?;
-    check_words::<Licence>(heap, &[(0, 0), (4294967295, 4)])?;
-    check_words::<Width>(heap, &[(0, 4), (4294967295, 0)])
+    check_words::<Minutes>(
+        heap,
+        &[
+            (0, Ok(())),
+            (4294967294, Ok(())),
+            (4294967295, Err(Refusal::LabelNone)),
+        ],
+    )?;
+    check_words::<Reach>(
+        heap,
+        &[
+            (0, Err(Refusal::LabelNone)),
+            (1, Ok(())),
+            (2, Err(Refusal::LabelNone)),
+        ],
+    )?;
+    check_words::<Licence>(heap, &[(0, Ok(())), (4294967295, Err(Refusal::LabelNone))])?;
+    check_words::<Width>(heap, &[(0, Err(Refusal::LabelNone)), (4294967295, Ok(()))])
 }
 
 // The answer to the reading of a sheet of so many arcs, of which the last has the target `last`.
-fn read_many(heap: Global, arcs: u32, last: u32) -> Result<u32, AllocError> {
+fn read_many(heap: Global, arcs: u32, last: u32) -> Result<Result<(), Refusal>, AllocError> {
     let length = arcs.wrapping_mul(8);
     let mut words = Vec::new(heap);
     words.extend_from_slice(&[2, 20, length, length.wrapping_add(20), 0])?;
@@ -164,8 +177,8 @@ fn read_many(heap: Global, arcs: u32, last: u32) -> Result<u32, AllocError> {
 #[test]
 fn most_arcs(rt: HostRuntime) -> Result<(), Fail> {
     let heap = rt.alloc();
-    assert_eq!(rt; read_many(heap, 65536, 1)?, 0);
-    assert_eq!(rt; read_many(heap, 65536, 2)?, 6);
-    assert_eq!(rt; read_many(heap, 65537, 2)?, 2);
+    assert_eq!(rt; read_many(heap, 65536, 1)?, Ok(()));
+    assert_eq!(rt; read_many(heap, 65536, 2)?, Err(Refusal::NoPackage));
+    assert_eq!(rt; read_many(heap, 65537, 2)?, Err(Refusal::BadSize));
     Ok(())
 }

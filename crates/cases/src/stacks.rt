@@ -1,9 +1,10 @@
 // Stacks of catalogues against the reference, over long runs of calls.
 use crate::checks::check;
-use crate::driving::{Seen, call_reference, drive};
+use crate::driving::{Seen, drive};
 use crate::frozen::Frozen;
+use crate::places::blank;
 use crate::reference::Reference;
-use catalogue::{Blank, Call, Catalogue, Holding, Layer, Ledger, Make, Turned, run};
+use catalogue::{Blank, Call, Catalogue, Holding, Layer, Ledger, Make, Refusal, Turned, run};
 use labels::{Label, Minutes};
 use paths::Arc;
 use std::alloc::{AllocError, Global};
@@ -12,15 +13,6 @@ use std::test::Fail;
 const PLACES: usize = 8;
 
 const CALLS: u32 = 1500;
-
-fn blank_arcs() -> [Arc<Minutes>; 8] {
-    let label = Minutes::NONE;
-    [Arc {
-        from: 0,
-        to: 0,
-        label,
-    }; 8]
-}
 
 // The arcs that a stack has before its layers are laid.
 fn first_calls() -> [Call<Minutes>; 4] {
@@ -32,12 +24,17 @@ fn first_calls() -> [Call<Minutes>; 4] {
     ]
 }
 
-// A reference over a ledger of `n` packages with those arcs.
-fn stocked(heap: Global, n: u32, most_held: usize) -> Result<Reference, AllocError> {
-    let mut reference = Reference::new(heap, n, u32::MAX, PLACES, most_held);
-    for call in first_calls() {
-        let _ = call_reference(&mut reference, call)?;
-    }
+// A ledger of `n` packages with those arcs.
+fn stocked<'a>(n: u32, arcs: &'a mut [Arc<Minutes>]) -> Result<Ledger<'a, Minutes>, Refusal> {
+    let mut ledger = Ledger::make(Blank { n, arcs })?;
+    run(&mut ledger, &first_calls());
+    Ok(ledger)
+}
+
+// The reference over such a ledger.
+fn reference(heap: Global, n: u32, most_held: usize) -> Result<Reference<Minutes>, AllocError> {
+    let mut reference = Reference::new(heap, n, Minutes::NONE, PLACES, most_held);
+    reference.run(&first_calls())?;
     Ok(reference)
 }
 
@@ -47,20 +44,15 @@ fn check_seen(seen: Seen) -> Result<(), Fail> {
     check(seen.refused > 0)?;
     check(seen.held > 0)?;
     check(seen.hidden > 0)?;
-    check(seen.in_force > 0)?;
-    Ok(())
+    check(seen.in_force > 0)
 }
 
 #[test]
 fn ledger(rt: HostRuntime) -> Result<(), Fail> {
-    let mut arcs = blank_arcs();
-    let mut ledger = Ledger::make(Blank {
-        n: 6,
-        arcs: &mut arcs,
-    })?;
-    run(&mut ledger, &first_calls());
-    let mut reference = stocked(rt.alloc(), 6, 0)?;
-    let seen = drive(&mut ledger, &mut reference, false, CALLS)?;
+    let mut arcs = blank::<Minutes>(rt.alloc(), PLACES)?;
+    let mut top = stocked(6, arcs.as_mut_slice())?;
+    let mut reference = reference(rt.alloc(), 6, 0)?;
+    let seen = drive(&mut top, &mut reference, CALLS)?;
     assert!(rt; seen.accepted > 0);
     assert!(rt; seen.refused > 0);
     assert!(rt; seen.several > 0);
@@ -72,82 +64,56 @@ fn ledger(rt: HostRuntime) -> Result<(), Fail> {
 
 #[test]
 fn holding_ledger(rt: HostRuntime) -> Result<(), Fail> {
-    let mut arcs = blank_arcs();
-    let mut ledger = Ledger::make(Blank {
-        n: 6,
-        arcs: &mut arcs,
-    })?;
-    run(&mut ledger, &first_calls());
-    let mut reference = stocked(rt.alloc(), 6, 32)?;
-    let seen = drive(&mut Holding::over(ledger), &mut reference, false, CALLS)?;
+    let mut arcs = blank::<Minutes>(rt.alloc(), PLACES)?;
+    let mut top = Holding::over(stocked(6, arcs.as_mut_slice())?);
+    let mut reference = reference(rt.alloc(), 6, 32)?;
+    let seen = drive(&mut top, &mut reference, CALLS)?;
     assert!(rt; seen.several > 0);
     assert!(rt; seen.full > 0);
-    check_seen(seen)?;
-    Ok(())
+    check_seen(seen)
 }
 
 #[test]
 fn turned_holding_ledger(rt: HostRuntime) -> Result<(), Fail> {
-    let mut arcs = blank_arcs();
-    let mut ledger = Ledger::make(Blank {
-        n: 6,
-        arcs: &mut arcs,
-    })?;
-    run(&mut ledger, &first_calls());
-    let mut reference = stocked(rt.alloc(), 6, 32)?;
-    let mut top = Turned::over(Holding::over(ledger));
-    let seen = drive(&mut top, &mut reference, true, CALLS)?;
+    let mut arcs = blank::<Minutes>(rt.alloc(), PLACES)?;
+    let mut top = Turned::over(Holding::over(stocked(6, arcs.as_mut_slice())?));
+    let mut reference = reference(rt.alloc(), 6, 32)?;
+    reference.turn();
+    let seen = drive(&mut top, &mut reference, CALLS)?;
     assert!(rt; seen.several > 0);
     assert!(rt; seen.full > 0);
-    check_seen(seen)?;
-    Ok(())
+    check_seen(seen)
 }
 
 #[test]
 fn holding_turned_holding_ledger(rt: HostRuntime) -> Result<(), Fail> {
-    let mut arcs = blank_arcs();
-    let mut ledger = Ledger::make(Blank {
-        n: 6,
-        arcs: &mut arcs,
-    })?;
-    run(&mut ledger, &first_calls());
-    let mut reference = stocked(rt.alloc(), 6, 64)?;
-    let mut top = Holding::over(Turned::over(Holding::over(ledger)));
-    let seen = drive(&mut top, &mut reference, true, CALLS)?;
+    let mut arcs = blank::<Minutes>(rt.alloc(), PLACES)?;
+    let mut top = Holding::over(Turned::over(Holding::over(stocked(6, arcs.as_mut_slice())?)));
+    let mut reference = reference(rt.alloc(), 6, 64)?;
+    reference.turn();
+    let seen = drive(&mut top, &mut reference, CALLS)?;
     assert!(rt; seen.several > 0);
     assert!(rt; seen.full > 0);
-    check_seen(seen)?;
-    Ok(())
+    check_seen(seen)
 }
 
 // More packages than two lists take, so that holds pass down and run out.
 #[test]
 fn two_lists_run_out(rt: HostRuntime) -> Result<(), Fail> {
-    let mut arcs = blank_arcs();
-    let mut ledger = Ledger::make(Blank {
-        n: 110,
-        arcs: &mut arcs,
-    })?;
-    run(&mut ledger, &first_calls());
-    let mut reference = stocked(rt.alloc(), 110, 64)?;
-    let mut top = Holding::over(Turned::over(Holding::over(ledger)));
-    let seen = drive(&mut top, &mut reference, true, CALLS)?;
+    let mut arcs = blank::<Minutes>(rt.alloc(), PLACES)?;
+    let mut top = Holding::over(Turned::over(Holding::over(stocked(110, arcs.as_mut_slice())?)));
+    let mut reference = reference(rt.alloc(), 110, 64)?;
+    reference.turn();
+    let seen = drive(&mut top, &mut reference, CALLS)?;
     assert!(rt; seen.no_holds > 0);
-    check_seen(seen)?;
-    Ok(())
+    check_seen(seen)
 }
 
 #[test]
 fn frozen_holding_ledger(rt: HostRuntime) -> Result<(), Fail> {
-    let mut arcs = blank_arcs();
-    let mut ledger = Ledger::make(Blank {
-        n: 6,
-        arcs: &mut arcs,
-    })?;
-    run(&mut ledger, &first_calls());
-    let mut reference = stocked(rt.alloc(), 6, 32)?;
+    let mut arcs = blank::<Minutes>(rt.alloc(), PLACES)?;
+    let mut top = Frozen::over(Holding::over(stocked(6, arcs.as_mut_slice())?));
+    let mut reference = reference(rt.alloc(), 6, 32)?;
     reference.seal();
-    let mut top = Frozen::over(Holding::over(ledger));
-    check_seen(drive(&mut top, &mut reference, false, CALLS)?)?;
-    Ok(())
+    check_seen(drive(&mut top, &mut reference, CALLS)?)
 }

@@ -45,6 +45,7 @@ impl Label for Width {
         }
     }
 
+    #[tactic(auto, using(crate::specs::Wide::width_then))]
     fn from_word(word: u32) -> Option<Width> {
         (word != 0).then_some(Width { value: word })
     }

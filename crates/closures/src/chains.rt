@@ -1,7 +1,8 @@
 // Labels by the rules alone: every chain is written out.
 use crate::kinds::Kind;
-use cases::{Record, Reference};
+use paths::Arc;
 use std::alloc::{AllocError, Global};
+use std::marker::PhantomData;
 
 #[derive(Clone, Copy)]
 struct Chain {
@@ -13,42 +14,43 @@ struct Chain {
 
 // The chains of at most n + 1 arcs of a catalogue of n packages.
 #[derive(Drop)]
-pub struct Chains {
-    kind: Kind,
+pub struct Chains<K> {
     n: u32,
     all: Vec<Chain>,
+    kind: PhantomData<K>,
 }
 
-impl Chains {
-    pub fn new(heap: Global, kind: Kind, reference: &Reference) -> Result<Chains, AllocError> {
-        let n = reference.n();
-        let arcs = in_force(heap, reference)?;
-        let mut all = Vec::new(heap);
-        for arc in arcs.iter() {
-            all.push(Chain {
+impl<K: Kind> Chains<K> {
+    // The chains of these arcs.
+    pub fn new(heap: Global, n: u32, arcs: &[Arc<u32>]) -> Result<Chains<K>, AllocError> {
+        let mut all: Vec<Chain> = arcs
+            .iter()
+            .map(|arc| Chain {
                 arcs: 1,
                 from: arc.from,
                 to: arc.to,
-                word: arc.word,
-            })?;
-        }
+                word: arc.label,
+            })
+            .collect(heap)?;
         for length in 1..n.saturating_add(1) {
             let mut longer = Vec::new(heap);
-            for chain in all.iter() {
-                for arc in arcs.iter() {
-                    if chain.arcs == length && chain.to == arc.from {
-                        longer.push(Chain {
-                            arcs: length.saturating_add(1),
-                            from: chain.from,
-                            to: arc.to,
-                            word: kind.extend(chain.word, arc.word),
-                        })?;
-                    }
+            for chain in all.iter().filter(|chain| chain.arcs == length) {
+                for arc in arcs.iter().filter(|arc| arc.from == chain.to) {
+                    longer.push(Chain {
+                        arcs: length.saturating_add(1),
+                        from: chain.from,
+                        to: arc.to,
+                        word: K::extend_words(chain.word, arc.label),
+                    })?;
                 }
             }
             all.extend_from_slice(longer.as_slice())?;
         }
-        Ok(Chains { kind, n, all })
+        Ok(Chains {
+            n,
+            all,
+            kind: PhantomData,
+        })
     }
 
     pub fn n(&self) -> u32 {
@@ -56,82 +58,46 @@ impl Chains {
     }
 
     // L(most) of a pair: the join over its chains of 1 to `most` arcs, or none.
-    pub fn within(&self, most: u32, from: u32, to: u32) -> u32 {
-        let mut word = self.kind.none();
-        for chain in self.all.iter() {
-            if chain.arcs <= most && chain.from == from && chain.to == to {
-                word = self.kind.join(word, chain.word);
-            }
-        }
-        word
+    fn within(&self, most: u32, from: u32, to: u32) -> u32 {
+        self.all
+            .iter()
+            .filter(|chain| chain.arcs <= most && chain.from == from && chain.to == to)
+            .fold(K::NO_WORD, |word, chain| K::join_words(word, chain.word))
     }
 
     // L(n) of a pair.
-    pub fn label(&self, from: u32, to: u32) -> u32 {
+    pub fn word(&self, from: u32, to: u32) -> u32 {
         self.within(self.n, from, to)
     }
 
     // Is L(m + 1) = L(m)?
     fn still(&self, m: u32) -> bool {
-        for i in 0..self.n {
-            for j in 0..self.n {
-                if self.within(m, i, j) != self.within(m.saturating_add(1), i, j) {
-                    return false;
-                }
-            }
-        }
-        true
+        let more = m.saturating_add(1);
+        (0..self.n).all(|i| (0..self.n).all(|j| self.within(m, i, j) == self.within(more, i, j)))
     }
 
-    // The least m of 1 or more with L(m + 1) = L(m), or 0 if there is none up to n.
-    pub fn rounds(&self) -> usize {
-        for m in 1..self.n.saturating_add(1) {
-            if self.still(m) {
-                return m as usize;
-            }
-        }
-        0
+    // The least m of 1 or more with L(m + 1) = L(m), if there is one up to n.
+    pub fn rounds(&self) -> Option<usize> {
+        (1..self.n.saturating_add(1))
+            .find(|m| self.still(*m))
+            .map(|m| m as usize)
     }
 
     // Does a chain lead back to its start?
     pub fn loops(&self) -> bool {
-        for chain in self.all.iter() {
-            if chain.from == chain.to {
-                return true;
-            }
-        }
-        false
+        self.all.iter().any(|chain| chain.from == chain.to)
     }
 
     // Is the label of a chain none?
     pub fn lost(&self) -> bool {
-        for chain in self.all.iter() {
-            if chain.word == self.kind.none() {
-                return true;
-            }
-        }
-        false
+        self.all.iter().any(|chain| chain.word == K::NO_WORD)
     }
 
     // Has a pair another label by shorter chains, which is not none?
     pub fn changed(&self) -> bool {
-        for chain in self.all.iter() {
+        self.all.iter().any(|chain| {
             let early = self.within(chain.arcs, chain.from, chain.to);
-            if early != self.kind.none() && early != self.label(chain.from, chain.to) {
-                return true;
-            }
-        }
-        false
+            early != K::NO_WORD && early != self.word(chain.from, chain.to)
+        })
     }
-}
-
-fn in_force(heap: Global, reference: &Reference) -> Result<Vec<Record>, AllocError> {
-    let mut arcs = Vec::new(heap);
-    for k in 0..reference.stock_len() {
-        match reference.arc_at(k) {
-            Some(arc) => arcs.push(arc)?,
-            None => {}
-        }
-    }
-    Ok(arcs)
 }

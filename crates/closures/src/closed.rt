@@ -1,5 +1,6 @@
 // A catalogue's closings beside the labels of its chains.
 use crate::chains::Chains;
+use crate::kinds::Kind;
 use cases::{check, check_eq};
 use catalogue::Catalogue;
 use closing::{by_elimination, by_rounds, label_of, row};
@@ -8,77 +9,63 @@ use std::alloc::{AllocError, Global};
 use std::test::Fail;
 
 // More cells than the closings of 5 packages need.
-const CELLS: u32 = 30;
+const CELLS: usize = 30;
 
 // The label that a word names, or none.
 pub fn label<K: Label>(word: u32) -> K {
-    match K::from_word(word) {
-        Some(label) => label,
-        None => K::NONE,
-    }
+    K::from_word(word).unwrap_or(K::NONE)
 }
 
 // What stands in a table before it is written to.
 pub fn unwritten<K: Label>(heap: Global) -> Result<Vec<K>, AllocError> {
-    let mut table = Vec::new(heap);
-    for _ in 0..CELLS {
-        table.push(K::WHOLE)?;
-    }
-    Ok(table)
+    Ok(vec![in heap; K::WHOLE; CELLS]?)
 }
 
 // The label of every pair in its cell, and the cells behind them unwritten.
-pub fn check_table<K: Label>(table: &[K], chains: &Chains) -> Result<(), Fail> {
-    let n = chains.n();
-    let mut i = 0;
-    let mut j = 0;
-    for cell in table {
-        let due = if i < n {
-            label(chains.label(i, j))
-        } else {
-            K::WHOLE
-        };
-        check(cell.same(due))?;
-        j = j.saturating_add(1);
-        if j == n {
-            i = i.saturating_add(1);
-            j = 0;
+fn check_table<K: Kind>(table: &[K], chains: &Chains<K>) -> Result<(), Fail> {
+    let mut cells = table.iter();
+    for i in 0..chains.n() {
+        for j in 0..chains.n() {
+            check(cells.next() == Some(&label(chains.word(i, j))))?;
         }
     }
-    check(i >= n)?;
-    Ok(())
+    check(cells.all(|cell| *cell == K::WHOLE))
 }
 
 // The rows of a table, each as long as there are packages.
-fn check_rows<K: Label>(table: &[K], chains: &Chains) -> Result<(), Fail> {
+fn check_rows<K: Kind>(table: &[K], chains: &Chains<K>) -> Result<(), Fail> {
     let n = chains.n();
     for p in 0..n {
-        let mut j = 0;
-        for cell in row(table, n, p)? {
-            check(cell.same(label(chains.label(p, j))))?;
-            j = j.saturating_add(1);
+        let mut cells = row(table, n, p)?.iter();
+        for j in 0..n {
+            check(cells.next() == Some(&label(chains.word(p, j))))?;
         }
-        check_eq(j, n)?;
+        check(cells.next().is_none())?;
     }
     Ok(())
 }
 
 // The label of each pair, one by one.
-fn check_labels<C: Catalogue>(c: &C, table: &mut [C::Label], chains: &Chains) -> Result<(), Fail>
-    requires { C.Catalogue.valid c.now }
+fn check_labels<K: Kind, C: Catalogue<Label = K>>(
+    c: &C,
+    table: &mut [K],
+    chains: &Chains<K>,
+) -> Result<(), Fail>
 {
     for i in 0..chains.n() {
         for j in 0..chains.n() {
-            let found = label_of(c, table, i, j)?;
-            check(found.same(label(chains.label(i, j))))?;
+            check(label_of(c, table, i, j)? == label(chains.word(i, j)))?;
         }
     }
     Ok(())
 }
 
 // Closes in both ways.
-pub fn check_closed<C: Catalogue>(heap: Global, c: &C, chains: &Chains) -> Result<(), Fail>
-    requires { C.Catalogue.valid c.now }
+pub fn check_closed<K: Kind, C: Catalogue<Label = K>>(
+    heap: Global,
+    c: &C,
+    chains: &Chains<K>,
+) -> Result<(), Fail>
 {
     let mut table = unwritten(heap)?;
     let mut changed = unwritten(heap)?;
@@ -89,7 +76,7 @@ pub fn check_closed<C: Catalogue>(heap: Global, c: &C, chains: &Chains) -> Resul
         changed.as_mut_slice(),
         found.as_mut_slice(),
     )?;
-    check_eq(rounds, chains.rounds())?;
+    check_eq(Some(rounds), chains.rounds())?;
     check_table(table.as_slice(), chains)?;
     check_rows(table.as_slice(), chains)?;
     let mut table = unwritten(heap)?;

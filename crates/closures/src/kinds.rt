@@ -1,37 +1,86 @@
 // The label kinds by the rules alone: a label is a word.
-#[derive(Clone, Copy)]
-pub enum Kind {
-    // 0 is no, 1 is yes
-    Reach,
-    Minutes,
-    Licence,
-    Width,
+use cases::{Rolls, Width};
+use labels::{Label, Licence, Minutes, Reach};
+
+pub trait Kind: Label {
+    // The word of the label none.
+    const NO_WORD: u32;
+
+    fn join_words(a: u32, b: u32) -> u32;
+
+    fn extend_words(a: u32, b: u32) -> u32;
+
+    // A word but for none, from a number below 9 and what else is rolled.
+    fn word(small: u32, rolls: &mut Rolls) -> u32;
 }
 
-impl Kind {
-    pub fn none(self) -> u32 {
-        match self {
-            Self::Reach | Self::Width => 0,
-            Self::Minutes | Self::Licence => u32::MAX,
-        }
+// 0 is no, 1 is yes.
+impl Kind for Reach {
+    const NO_WORD: u32 = 0;
+
+    fn join_words(a: u32, b: u32) -> u32 {
+        a | b
     }
 
-    pub fn join(self, a: u32, b: u32) -> u32 {
-        match self {
-            Self::Reach => a | b,
-            Self::Minutes => a.min(b),
-            Self::Licence => a & b,
-            Self::Width => a.max(b),
-        }
+    fn extend_words(a: u32, b: u32) -> u32 {
+        a & b
+    }
+
+    fn word(_small: u32, _rolls: &mut Rolls) -> u32 {
+        1
+    }
+}
+
+impl Kind for Minutes {
+    const NO_WORD: u32 = u32::MAX;
+
+    fn join_words(a: u32, b: u32) -> u32 {
+        a.min(b)
     }
 
     // A sum of minutes above 4294967294 is none.
-    pub fn extend(self, a: u32, b: u32) -> u32 {
-        match self {
-            Self::Reach => a & b,
-            Self::Minutes => a.saturating_add(b),
-            Self::Licence => a | b,
-            Self::Width => a.min(b),
+    fn extend_words(a: u32, b: u32) -> u32 {
+        a.saturating_add(b)
+    }
+
+    // Half of the minutes are so long that two in a chain are too long.
+    fn word(small: u32, rolls: &mut Rolls) -> u32 {
+        if rolls.below(2) == 0 {
+            small
+        } else {
+            4294967294u32.saturating_sub(small)
         }
+    }
+}
+
+impl Kind for Licence {
+    const NO_WORD: u32 = u32::MAX;
+
+    fn join_words(a: u32, b: u32) -> u32 {
+        a & b
+    }
+
+    fn extend_words(a: u32, b: u32) -> u32 {
+        a | b
+    }
+
+    fn word(small: u32, _rolls: &mut Rolls) -> u32 {
+        small
+    }
+}
+
+impl Kind for Width {
+    const NO_WORD: u32 = 0;
+
+    fn join_words(a: u32, b: u32) -> u32 {
+        a.max(b)
+    }
+
+    fn extend_words(a: u32, b: u32) -> u32 {
+        a.min(b)
+    }
+
+    fn word(small: u32, _rolls: &mut Rolls) -> u32 {
+        small.saturating_add(1)
     }
 }

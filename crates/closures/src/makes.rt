@@ -2,29 +2,30 @@
 use crate::chains::Chains;
 use crate::closed::check_closed;
 use crate::kinds::Kind;
-use crate::scenes::{PLACES, blank, labelled, rolled, tell_all};
-use cases::{Frozen, Reference, Rolls, Width, check};
+use crate::scenes::{PLACES, admission, any_call, in_force, labelled};
+use cases::{Frozen, Reference, Rolls, Width, blank, check, count};
 use catalogue::{Blank, Call, Catalogue, Holding, Layer, Ledger, Make, Sheet, Turned, run};
-use labels::{Label, Licence, Minutes, Reach};
+use labels::{Licence, Minutes, Reach};
+use paths::Arc;
 use std::alloc::{AllocError, Global};
+use std::marker::PhantomData;
 use std::test::Fail;
 
 const SCENES: u32 = 60;
 
 // The calls before layers are laid, which only admit, and those after.
 #[derive(Drop)]
-struct Scene {
+struct Scene<K> {
     heap: Global,
-    kind: Kind,
     n: u32,
     first: Vec<Call<u32>>,
     then: Vec<Call<u32>>,
+    kind: PhantomData<K>,
 }
 
 // In how many catalogues something was seen.
-#[derive(Clone, Copy)]
+#[derive(Clone, Copy, Default)]
 struct Seen {
-    catalogues: usize,
     // a chain back to its start
     loops: usize,
     // two arcs in force with the same ends
@@ -37,118 +38,126 @@ struct Seen {
     changed: usize,
 }
 
-// The reference after the scene's calls, of which the first are turned where a layer turns them.
-fn told(scene: &Scene, turned: bool, most_held: usize) -> Result<Reference, AllocError> {
-    let none = scene.kind.none();
-    let mut reference = Reference::new(scene.heap, scene.n, none, PLACES, most_held);
-    tell_all(&mut reference, scene.first.as_slice(), turned)?;
-    tell_all(&mut reference, scene.then.as_slice(), false)?;
-    Ok(reference)
+impl<K: Kind> Scene<K> {
+    fn new(heap: Global, rolls: &mut Rolls) -> Result<Scene<K>, AllocError> {
+        let n = rolls.below(4).saturating_add(1);
+        Ok(Scene {
+            heap,
+            n,
+            first: (0..4).map(|_| admission::<K>(rolls, n)).collect(heap)?,
+            then: (0..6).map(|_| any_call::<K>(rolls, n)).collect(heap)?,
+            kind: PhantomData,
+        })
+    }
+
+    // A ledger after the first calls.
+    fn ledger<'a>(&self, arcs: &'a mut [Arc<K>]) -> Result<Ledger<'a, K>, Fail>
+    {
+        let mut ledger = Ledger::make(Blank { n: self.n, arcs })?;
+        let calls = labelled(self.heap, self.first.as_slice())?;
+        run(&mut ledger, calls.as_slice());
+        Ok(ledger)
+    }
+
+    // The reference over such a ledger.
+    fn reference(&self, most_held: usize) -> Result<Reference<u32>, AllocError> {
+        let mut reference = Reference::new(self.heap, self.n, K::NO_WORD, PLACES, most_held);
+        reference.run(self.first.as_slice())?;
+        Ok(reference)
+    }
+
+    // Makes the calls after the layers on both, and compares them.
+    fn check<C: Catalogue<Label = K>>(
+        &self,
+        top: &mut C,
+        mut reference: Reference<u32>,
+        seen: &mut Seen,
+    ) -> Result<(), Fail>
+    {
+        let calls = labelled(self.heap, self.then.as_slice())?;
+        run(top, calls.as_slice());
+        reference.run(self.then.as_slice())?;
+        let arcs = in_force(self.heap, &reference)?;
+        compare(self.heap, top, arcs.as_slice(), seen)?;
+        count(&mut seen.hidden, arcs.len() < reference.stock_len());
+        Ok(())
+    }
+
+    fn check_ledger(&self, seen: &mut Seen) -> Result<(), Fail> {
+        let mut arcs = blank(self.heap, PLACES)?;
+        let mut top = self.ledger(arcs.as_mut_slice())?;
+        self.check(&mut top, self.reference(0)?, seen)
+    }
+
+    // The sheet of the arcs that a ledger would have.
+    fn check_sheet(&self, seen: &mut Seen) -> Result<(), Fail> {
+        let mut reference = self.reference(0)?;
+        reference.run(self.then.as_slice())?;
+        let arcs = in_force(self.heap, &reference)?;
+        let bytes = sheet_bytes(self.heap, self.n, arcs.as_slice())?;
+        let sheet = Sheet::<K>::make(bytes.as_slice())?;
+        compare(self.heap, &sheet, arcs.as_slice(), seen)
+    }
+
+    fn check_turned(&self, seen: &mut Seen) -> Result<(), Fail> {
+        let mut arcs = blank(self.heap, PLACES)?;
+        let mut top = Turned::over(self.ledger(arcs.as_mut_slice())?);
+        let mut reference = self.reference(0)?;
+        reference.turn();
+        self.check(&mut top, reference, seen)
+    }
+
+    fn check_holding(&self, seen: &mut Seen) -> Result<(), Fail> {
+        let mut arcs = blank(self.heap, PLACES)?;
+        let mut top = Holding::over(self.ledger(arcs.as_mut_slice())?);
+        self.check(&mut top, self.reference(32)?, seen)
+    }
+
+    // The calls after the layers are made once below the layer that seals, and once above it.
+    fn check_stack(&self, seen: &mut Seen) -> Result<(), Fail> {
+        let mut arcs = blank(self.heap, PLACES)?;
+        let ledger = self.ledger(arcs.as_mut_slice())?;
+        let mut holding = Holding::over(Turned::over(Holding::over(ledger)));
+        let calls = labelled(self.heap, self.then.as_slice())?;
+        run(&mut holding, calls.as_slice());
+        let mut top = Frozen::over(holding);
+        let mut reference = self.reference(64)?;
+        reference.turn();
+        reference.run(self.then.as_slice())?;
+        reference.seal();
+        self.check(&mut top, reference, seen)
+    }
 }
 
-fn compare<C: Catalogue>(
+// Compares with the chains of these arcs, which are those in force.
+fn compare<K: Kind, C: Catalogue<Label = K>>(
+    heap: Global,
     c: &C,
-    scene: &Scene,
-    reference: &Reference,
+    arcs: &[Arc<u32>],
     seen: &mut Seen,
 ) -> Result<(), Fail>
-    requires { C.Catalogue.valid c.now }
 {
-    let chains = Chains::new(scene.heap, scene.kind, reference)?;
-    check_closed(scene.heap, c, &chains)?;
-    note(seen, reference, &chains);
+    let chains = Chains::new(heap, c.n(), arcs)?;
+    check_closed(heap, c, &chains)?;
+    count(&mut seen.loops, chains.loops());
+    count(&mut seen.parallel, parallel(arcs));
+    count(&mut seen.lost, chains.lost());
+    count(&mut seen.changed, chains.changed());
     Ok(())
 }
 
-fn check_ledger<K: Label>(scene: &Scene, seen: &mut Seen) -> Result<(), Fail> {
-    let mut arcs = blank::<K>(scene.heap)?;
-    let mut ledger = Ledger::make(Blank {
-        n: scene.n,
-        arcs: arcs.as_mut_slice(),
-    })?;
-    let calls = labelled(scene.heap, scene.first.as_slice())?;
-    run(&mut ledger, calls.as_slice());
-    let calls = labelled(scene.heap, scene.then.as_slice())?;
-    run(&mut ledger, calls.as_slice());
-    compare(&ledger, scene, &told(scene, false, 0)?, seen)
-}
-
-// The sheet of the arcs that a ledger would have.
-fn check_sheet<K: Label>(scene: &Scene, seen: &mut Seen) -> Result<(), Fail> {
-    let reference = told(scene, false, 0)?;
-    let bytes = sheet_bytes(scene.heap, &reference)?;
-    let sheet = Sheet::<K>::make(bytes.as_slice())?;
-    compare(&sheet, scene, &reference, seen)
-}
-
-fn check_turned<K: Label>(scene: &Scene, seen: &mut Seen) -> Result<(), Fail> {
-    let mut arcs = blank::<K>(scene.heap)?;
-    let mut ledger = Ledger::make(Blank {
-        n: scene.n,
-        arcs: arcs.as_mut_slice(),
-    })?;
-    let calls = labelled(scene.heap, scene.first.as_slice())?;
-    run(&mut ledger, calls.as_slice());
-    let mut top = Turned::over(ledger);
-    let calls = labelled(scene.heap, scene.then.as_slice())?;
-    run(&mut top, calls.as_slice());
-    compare(&top, scene, &told(scene, true, 0)?, seen)
-}
-
-fn check_holding<K: Label>(scene: &Scene, seen: &mut Seen) -> Result<(), Fail> {
-    let mut arcs = blank::<K>(scene.heap)?;
-    let mut ledger = Ledger::make(Blank {
-        n: scene.n,
-        arcs: arcs.as_mut_slice(),
-    })?;
-    let calls = labelled(scene.heap, scene.first.as_slice())?;
-    run(&mut ledger, calls.as_slice());
-    let mut top = Holding::over(ledger);
-    let calls = labelled(scene.heap, scene.then.as_slice())?;
-    run(&mut top, calls.as_slice());
-    compare(&top, scene, &told(scene, false, 32)?, seen)
-}
-
-// The calls after the layers are made once below the layer that seals, and once above it.
-fn check_stack<K: Label>(scene: &Scene, seen: &mut Seen) -> Result<(), Fail> {
-    let mut arcs = blank::<K>(scene.heap)?;
-    let mut ledger = Ledger::make(Blank {
-        n: scene.n,
-        arcs: arcs.as_mut_slice(),
-    })?;
-    let calls = labelled(scene.heap, scene.first.as_slice())?;
-    run(&mut ledger, calls.as_slice());
-    let then = labelled(scene.heap, scene.then.as_slice())?;
-    let mut holding = Holding::over(Turned::over(Holding::over(ledger)));
-    run(&mut holding, then.as_slice());
-    let mut top = Frozen::over(holding);
-    run(&mut top, then.as_slice());
-    let mut reference = told(scene, true, 64)?;
-    reference.seal();
-    tell_all(&mut reference, scene.then.as_slice(), false)?;
-    compare(&top, scene, &reference, seen)
-}
-
-// Writes the reference's arcs as a sheet: n, each package's offset and length, and the runs.
-fn sheet_bytes(heap: Global, reference: &Reference) -> Result<Vec<u8>, AllocError> {
-    let n = reference.n();
+// Writes arcs as a sheet: n, each package's offset and length, and the runs.
+fn sheet_bytes(heap: Global, n: u32, arcs: &[Arc<u32>]) -> Result<Vec<u8>, AllocError> {
     let mut pairs = Vec::new(heap);
     let mut runs = Vec::new(heap);
     let mut offset = n.saturating_mul(8).saturating_add(4);
     pairs.extend_from_slice(&n.to_le_bytes())?;
     for p in 0..n {
         let mut length = 0u32;
-        for k in 0..reference.stock_len() {
-            match reference.arc_at(k) {
-                Some(arc) => {
-                    if arc.from == p {
-                        runs.extend_from_slice(&arc.to.to_le_bytes())?;
-                        runs.extend_from_slice(&arc.word.to_le_bytes())?;
-                        length = length.saturating_add(8);
-                    }
-                }
-                None => {}
-            }
+        for arc in arcs.iter().filter(|arc| arc.from == p) {
+            runs.extend_from_slice(&arc.to.to_le_bytes())?;
+            runs.extend_from_slice(&arc.label.to_le_bytes())?;
+            length = length.saturating_add(8);
         }
         pairs.extend_from_slice(&offset.to_le_bytes())?;
         pairs.extend_from_slice(&length.to_le_bytes())?;
@@ -158,74 +167,25 @@ fn sheet_bytes(heap: Global, reference: &Reference) -> Result<Vec<u8>, AllocErro
     Ok(pairs)
 }
 
-fn note(seen: &mut Seen, reference: &Reference, chains: &Chains) {
-    seen.catalogues = seen.catalogues.saturating_add(1);
-    if chains.loops() {
-        seen.loops = seen.loops.saturating_add(1);
-    }
-    if parallel(reference) {
-        seen.parallel = seen.parallel.saturating_add(1);
-    }
-    if hidden(reference) {
-        seen.hidden = seen.hidden.saturating_add(1);
-    }
-    if chains.lost() {
-        seen.lost = seen.lost.saturating_add(1);
-    }
-    if chains.changed() {
-        seen.changed = seen.changed.saturating_add(1);
-    }
+// Have two arcs the same ends?
+fn parallel(arcs: &[Arc<u32>]) -> bool {
+    arcs.iter().enumerate().any(|(k, arc)| {
+        arcs.iter()
+            .take(k)
+            .any(|other| other.from == arc.from && other.to == arc.to)
+    })
 }
 
-fn hidden(reference: &Reference) -> bool {
-    for k in 0..reference.stock_len() {
-        if reference.arc_at(k).is_none() {
-            return true;
-        }
-    }
-    false
-}
-
-fn parallel(reference: &Reference) -> bool {
-    for k in 0..reference.stock_len() {
-        for l in 0..k {
-            match (reference.arc_at(k), reference.arc_at(l)) {
-                (Some(a), Some(b)) => {
-                    if a.from == b.from && a.to == b.to {
-                        return true;
-                    }
-                }
-                _ => {}
-            }
-        }
-    }
-    false
-}
-
-fn check_makes<K: Label>(heap: Global, kind: Kind) -> Result<Seen, Fail> {
+fn check_makes<K: Kind>(heap: Global) -> Result<Seen, Fail> {
     let mut rolls = Rolls::new(20);
-    let mut seen = Seen {
-        catalogues: 0,
-        loops: 0,
-        parallel: 0,
-        hidden: 0,
-        lost: 0,
-        changed: 0,
-    };
+    let mut seen = Seen::default();
     for _ in 0..SCENES {
-        let n = rolls.below(4).saturating_add(1);
-        let scene = Scene {
-            heap,
-            kind,
-            n,
-            first: rolled(heap, &mut rolls, kind, n, 4, false)?,
-            then: rolled(heap, &mut rolls, kind, n, 6, true)?,
-        };
-        check_ledger::<K>(&scene, &mut seen)?;
-        check_sheet::<K>(&scene, &mut seen)?;
-        check_turned::<K>(&scene, &mut seen)?;
-        check_holding::<K>(&scene, &mut seen)?;
-        check_stack::<K>(&scene, &mut seen)?;
+        let scene = Scene::<K>::new(heap, &mut rolls)?;
+        scene.check_ledger(&mut seen)?;
+        scene.check_sheet(&mut seen)?;
+        scene.check_turned(&mut seen)?;
+        scene.check_holding(&mut seen)?;
+        scene.check_stack(&mut seen)?;
     }
     check(seen.loops > 0)?;
     check(seen.parallel > 0)?;
@@ -235,7 +195,7 @@ fn check_makes<K: Label>(heap: Global, kind: Kind) -> Result<Seen, Fail> {
 
 #[test]
 fn reach(rt: HostRuntime) -> Result<(), Fail> {
-    let seen = check_makes::<Reach>(rt.alloc(), Kind::Reach)?;
+    let seen = check_makes::<Reach>(rt.alloc())?;
     assert_eq!(rt; seen.lost, 0);
     assert_eq!(rt; seen.changed, 0);
     Ok(())
@@ -243,7 +203,7 @@ fn reach(rt: HostRuntime) -> Result<(), Fail> {
 
 #[test]
 fn minutes(rt: HostRuntime) -> Result<(), Fail> {
-    let seen = check_makes::<Minutes>(rt.alloc(), Kind::Minutes)?;
+    let seen = check_makes::<Minutes>(rt.alloc())?;
     assert!(rt; seen.lost > 0);
     assert!(rt; seen.changed > 0);
     Ok(())
@@ -251,14 +211,14 @@ fn minutes(rt: HostRuntime) -> Result<(), Fail> {
 
 #[test]
 fn licence(rt: HostRuntime) -> Result<(), Fail> {
-    let seen = check_makes::<Licence>(rt.alloc(), Kind::Licence)?;
+    let seen = check_makes::<Licence>(rt.alloc())?;
     assert!(rt; seen.changed > 0);
     Ok(())
 }
 
 #[test]
 fn width(rt: HostRuntime) -> Result<(), Fail> {
-    let seen = check_makes::<Width>(rt.alloc(), Kind::Width)?;
+    let seen = check_makes::<Width>(rt.alloc())?;
     assert!(rt; seen.changed > 0);
     Ok(())
 }

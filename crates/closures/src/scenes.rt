@@ -10,62 +10,36 @@ use std::alloc::{AllocError, Global};
 // The arcs that every ledger has room for.
 pub const PLACES: usize = 7;
 
-// Places for a ledger.
-pub fn blank<K: Label>(heap: Global) -> Result<Vec<Arc<K>>, AllocError> {
-    let mut arcs = Vec::new(heap);
-    for _ in 0..PLACES {
-        arcs.push(Arc {
-            from: 0,
-            to: 0,
-            label: label(0),
-        })?;
-    }
-    Ok(arcs)
-}
-
-// A word of the kind. Half of the minutes are so long that two in a chain are too long.
-fn word(rolls: &mut Rolls, kind: Kind) -> u32 {
+fn arc<K: Kind>(rolls: &mut Rolls, n: u32) -> Arc<u32> {
+    let from = rolls.below(n);
+    let to = rolls.below(n);
     let small = rolls.below(9);
-    match kind {
-        Kind::Reach => 1,
-        Kind::Minutes => {
-            if rolls.below(2) == 0 {
-                small
-            } else {
-                4294967294u32.saturating_sub(small)
-            }
-        }
-        Kind::Licence => small,
-        Kind::Width => small.saturating_add(1),
+    Arc {
+        from,
+        to,
+        label: K::word(small, rolls),
     }
 }
 
-// Some calls: mostly admissions, and where `holds` some of each other call.
-pub fn rolled(
-    heap: Global,
-    rolls: &mut Rolls,
-    kind: Kind,
-    n: u32,
-    many: u32,
-    holds: bool,
-) -> Result<Vec<Call<u32>>, AllocError> {
-    let mut calls = Vec::new(heap);
-    for _ in 0..many {
-        let from = rolls.below(n);
-        let to = rolls.below(n);
-        let label = word(rolls, kind);
-        let sort = if holds { rolls.below(10) } else { 9 };
-        calls.push(match sort {
-            0 => Call::Withdraw(from, to),
-            1 | 2 => Call::Hold(from),
-            3 => Call::Lift(from),
-            _ => Call::Admit(from, to, label),
-        })?;
-    }
-    Ok(calls)
+pub fn admission<K: Kind>(rolls: &mut Rolls, n: u32) -> Call<u32> {
+    let arc = arc::<K>(rolls, n);
+    Call::Admit(arc.from, arc.to, arc.label)
 }
 
-pub fn in_labels<K: Label>(call: Call<u32>) -> Call<K> {
+// Mostly an admission, and else one of the other calls.
+pub fn any_call<K: Kind>(rolls: &mut Rolls, n: u32) -> Call<u32> {
+    let arc = arc::<K>(rolls, n);
+    match rolls.below(10) {
+        0 => Call::Withdraw(arc.from, arc.to),
+        1 | 2 => Call::Hold(arc.from),
+        3 => Call::Lift(arc.from),
+        _ => Call::Admit(arc.from, arc.to, arc.label),
+    }
+}
+
+// The call with a label in place of a word. As a `From` between two types of other crates it would
+// be refused.
+fn in_labels<K: Label>(call: Call<u32>) -> Call<K> {
     match call {
         Call::Admit(from, to, word) => Call::Admit(from, to, label(word)),
         Call::Withdraw(from, to) => Call::Withdraw(from, to),
@@ -74,7 +48,7 @@ pub fn in_labels<K: Label>(call: Call<u32>) -> Call<K> {
     }
 }
 
-// The calls with labels in place of words.
+// A `map` to labels of a kind that no argument names is not proved yet: hence the loop.
 pub fn labelled<K: Label>(heap: Global, calls: &[Call<u32>]) -> Result<Vec<Call<K>>, AllocError> {
     let mut told = Vec::new(heap);
     for call in calls {
@@ -83,36 +57,9 @@ pub fn labelled<K: Label>(heap: Global, calls: &[Call<u32>]) -> Result<Vec<Call<
     Ok(told)
 }
 
-// Makes a call on the reference, with the ends exchanged where `turned`; answers its number.
-pub fn tell(reference: &mut Reference, call: Call<u32>, turned: bool) -> Result<u32, AllocError> {
-    let outcome = match call {
-        Call::Admit(from, to, word) => {
-            if turned {
-                reference.admit(to, from, word)?
-            } else {
-                reference.admit(from, to, word)?
-            }
-        }
-        Call::Withdraw(from, to) => {
-            if turned {
-                reference.withdraw(to, from)?
-            } else {
-                reference.withdraw(from, to)?
-            }
-        }
-        Call::Hold(p) => reference.hold(p)?,
-        Call::Lift(p) => reference.lift(p)?,
-    };
-    Ok(outcome.number)
-}
-
-pub fn tell_all(
-    reference: &mut Reference,
-    calls: &[Call<u32>],
-    turned: bool,
-) -> Result<(), AllocError> {
-    for call in calls {
-        let _ = tell(reference, *call, turned)?;
-    }
-    Ok(())
+// The arcs in force, in their order.
+pub fn in_force(heap: Global, reference: &Reference<u32>) -> Result<Vec<Arc<u32>>, AllocError> {
+    (0..reference.stock_len())
+        .filter_map(|k| reference.arc_at(k))
+        .collect(heap)
 }

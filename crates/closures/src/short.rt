@@ -1,29 +1,20 @@
 // Buffers that are too short, and the refusals of a row.
-use crate::scenes::blank;
-use cases::{check_eq, number};
-use catalogue::{Blank, Catalogue, Ledger, Make};
+use crate::scenes::PLACES;
+use cases::{blank, check, check_eq};
+use catalogue::{Blank, Catalogue, Ledger, Make, Refusal};
 use closing::{by_elimination, by_rounds, label_of, row};
 use labels::Minutes;
 use std::alloc::{AllocError, Global};
+use std::fmt::Debug;
 use std::test::Fail;
 
 // Cells that all differ.
 fn numbered(heap: Global, cells: u32) -> Result<Vec<Minutes>, AllocError> {
-    let mut table = Vec::new(heap);
-    for value in 0..cells {
-        table.push(Minutes { value })?;
-    }
-    Ok(table)
+    (0..cells).map(|value| Minutes { value }).collect(heap)
 }
 
 fn check_numbered(table: &[Minutes], cells: u32) -> Result<(), Fail> {
-    let mut value = 0;
-    for cell in table {
-        check_eq(cell.value, value)?;
-        value = value.saturating_add(1);
-    }
-    check_eq(value, cells)?;
-    Ok(())
+    check(table.iter().map(|cell| cell.value).eq(0..cells))
 }
 
 // Closes into tables of so many cells, too few in one of them.
@@ -32,7 +23,6 @@ fn check_short<C: Catalogue<Label = Minutes>>(
     heap: Global,
     sizes: (u32, u32, u32),
 ) -> Result<(), Fail>
-    requires { C.Catalogue.valid c.now }
 {
     let mut table = numbered(heap, sizes.0)?;
     let mut changed = numbered(heap, sizes.1)?;
@@ -43,7 +33,7 @@ fn check_short<C: Catalogue<Label = Minutes>>(
         changed.as_mut_slice(),
         found.as_mut_slice(),
     );
-    check_eq(number(answer), 13)?;
+    check_eq(answer, Err(Refusal::ShortBuffer))?;
     check_numbered(table.as_slice(), sizes.0)?;
     check_numbered(changed.as_slice(), sizes.1)?;
     check_numbered(found.as_slice(), sizes.2)?;
@@ -53,7 +43,7 @@ fn check_short<C: Catalogue<Label = Minutes>>(
 #[test]
 fn short_tables(rt: HostRuntime) -> Result<(), Fail> {
     let heap = rt.alloc();
-    let mut arcs = blank(heap)?;
+    let mut arcs = blank(heap, PLACES)?;
     let mut ledger = Ledger::make(Blank {
         n: 3,
         arcs: arcs.as_mut_slice(),
@@ -65,26 +55,38 @@ fn short_tables(rt: HostRuntime) -> Result<(), Fail> {
     check_short(&ledger, heap, (9, 9, 8))?;
     check_short(&ledger, heap, (0, 30, 30))?;
     let mut table = numbered(heap, 8)?;
-    assert_eq!(rt; number(by_elimination(&ledger, table.as_mut_slice())), 13);
+    assert_eq!(rt;
+        by_elimination(&ledger, table.as_mut_slice()),
+        Err(Refusal::ShortBuffer)
+    );
     check_numbered(table.as_slice(), 8)?;
-    assert_eq!(rt; number(label_of(&ledger, table.as_mut_slice(), 0, 1)), 13);
+    assert_eq!(rt;
+        label_of(&ledger, table.as_mut_slice(), 0, 1),
+        Err(Refusal::ShortBuffer)
+    );
     check_numbered(table.as_slice(), 8)?;
     let mut table = numbered(heap, 9)?;
-    assert_eq!(rt; number(label_of(&ledger, table.as_mut_slice(), 0, 3)), 6);
-    assert_eq!(rt; number(label_of(&ledger, table.as_mut_slice(), 3, 0)), 6);
+    assert_eq!(rt;
+        label_of(&ledger, table.as_mut_slice(), 0, 3),
+        Err(Refusal::NoPackage)
+    );
+    assert_eq!(rt;
+        label_of(&ledger, table.as_mut_slice(), 3, 0),
+        Err(Refusal::NoPackage)
+    );
     check_numbered(table.as_slice(), 9)?;
     Ok(())
 }
 
 // The refusals of a row, where 3 packages need one cell more than `short` has.
-fn check_rows<T>(short: &[T], table: &[T]) -> Result<(), Fail> {
-    check_eq(number(row(short, 0, 9)), 1)?;
-    check_eq(number(row(short, 1025, 9)), 1)?;
-    check_eq(number(row(table, 1024, 0)), 13)?;
-    check_eq(number(row(short, 3, 9)), 13)?;
-    check_eq(number(row(short, 3, 0)), 13)?;
-    check_eq(number(row(table, 3, 3)), 6)?;
-    check_eq(number(row(table, 3, 2)), 0)?;
+fn check_rows<T: PartialEq + Debug>(short: &[T], table: &[T]) -> Result<(), Fail> {
+    check_eq(row(short, 0, 9), Err(Refusal::BadCount))?;
+    check_eq(row(short, 1025, 9), Err(Refusal::BadCount))?;
+    check_eq(row(table, 1024, 0), Err(Refusal::ShortBuffer))?;
+    check_eq(row(short, 3, 9), Err(Refusal::ShortBuffer))?;
+    check_eq(row(short, 3, 0), Err(Refusal::ShortBuffer))?;
+    check_eq(row(table, 3, 3), Err(Refusal::NoPackage))?;
+    check(row(table, 3, 2).is_ok())?;
     Ok(())
 }
 
@@ -92,12 +94,7 @@ fn check_rows<T>(short: &[T], table: &[T]) -> Result<(), Fail> {
 fn rows(rt: HostRuntime) -> Result<(), Fail> {
     let bytes = [0u8, 1, 2, 3, 4, 5, 6, 7, 8];
     check_rows(&[0u8; 8], &bytes)?;
-    let mut due = 3;
-    for byte in row(&bytes, 3, 1)? {
-        assert_eq!(rt; *byte, due);
-        due = due.saturating_add(1);
-    }
-    assert_eq!(rt; due, 6);
+    assert_eq!(rt; row(&bytes, 3, 1), Ok([3u8, 4, 5].as_slice()));
     let heap = rt.alloc();
     let short = numbered(heap, 8)?;
     let table = numbered(heap, 9)?;

@@ -2,11 +2,11 @@
 use crate::chains::Chains;
 use crate::closed::{label, unwritten};
 use crate::kinds::Kind;
-use crate::scenes::{PLACES, blank, labelled, tell_all};
-use cases::{Reference, check, check_eq};
+use crate::scenes::{PLACES, in_force, labelled};
+use cases::{Reference, blank, check, check_eq};
 use catalogue::{Blank, Call, Holding, Layer, Ledger, Make, run};
 use closing::row;
-use labels::{Label, Licence, Minutes, Reach};
+use labels::{Licence, Minutes, Reach};
 use runs::close_both;
 use std::alloc::Global;
 use std::test::Fail;
@@ -25,26 +25,23 @@ fn pair(from: u32, to: u32, word: u32) -> Labelled {
     Labelled { from, to, word }
 }
 
-fn check_pairs<K: Label>(table: &[K], n: u32, pairs: &[Labelled]) -> Result<(), Fail> {
+fn check_pairs<K: Kind>(table: &[K], n: u32, pairs: &[Labelled]) -> Result<(), Fail> {
     for pair in pairs {
-        match row(table, n, pair.from)?.get(pair.to as usize) {
-            Some(cell) => check(cell.same(label(pair.word)))?,
-            None => check(false)?,
-        }
+        let cells = row(table, n, pair.from)?;
+        check(cells.get(pair.to as usize) == Some(&label(pair.word)))?;
     }
     Ok(())
 }
 
 // What both closings and the chains give after these calls on Holding over a ledger.
-fn check_case<K: Label>(
+fn check_case<K: Kind>(
     heap: Global,
-    kind: Kind,
     n: u32,
     calls: &[Call<u32>],
     rounds: usize,
     pairs: &[Labelled],
 ) -> Result<(), Fail> {
-    let mut arcs = blank::<K>(heap)?;
+    let mut arcs = blank::<K>(heap, PLACES)?;
     let ledger = Ledger::make(Blank {
         n,
         arcs: arcs.as_mut_slice(),
@@ -63,16 +60,17 @@ fn check_case<K: Label>(
         found.as_mut_slice(),
         second.as_mut_slice(),
     );
-    check_eq(closings.by_rounds?, rounds)?;
-    closings.by_elimination?;
+    check_eq(closings.by_rounds, Ok(rounds))?;
+    check_eq(closings.by_elimination, Ok(()))?;
     check_pairs(first.as_slice(), n, pairs)?;
     check_pairs(second.as_slice(), n, pairs)?;
-    let mut reference = Reference::new(heap, n, kind.none(), PLACES, 32);
-    tell_all(&mut reference, calls, false)?;
-    let chains = Chains::new(heap, kind, &reference)?;
-    check_eq(chains.rounds(), rounds)?;
+    let mut reference = Reference::new(heap, n, K::NO_WORD, PLACES, 32);
+    reference.run(calls)?;
+    let arcs = in_force(heap, &reference)?;
+    let chains = Chains::<K>::new(heap, n, arcs.as_slice())?;
+    check_eq(chains.rounds(), Some(rounds))?;
     for pair in pairs {
-        check_eq(chains.label(pair.from, pair.to), pair.word)?;
+        check_eq(chains.word(pair.from, pair.to), pair.word)?;
     }
     Ok(())
 }
@@ -102,18 +100,11 @@ fn five_packages(rt: HostRuntime) -> Result<(), Fail> {
         pair(0, 1, 4),
     ];
     let heap = rt.alloc();
-    check_case::<Minutes>(heap, Kind::Minutes, 5, &five(Call::Lift(0)), 4, &pairs)?;
+    check_case::<Minutes>(heap, 5, &five(Call::Lift(0)), 4, &pairs)?;
     // a worse arc beside another changes nothing
-    check_case::<Minutes>(
-        heap,
-        Kind::Minutes,
-        5,
-        &five(Call::Admit(0, 1, 6)),
-        4,
-        &pairs,
-    )?;
+    check_case::<Minutes>(heap, 5, &five(Call::Admit(0, 1, 6)), 4, &pairs)?;
     let held = [pair(4, 3, 15), pair(0, 1, NONE), pair(1, 2, NONE)];
-    check_case::<Minutes>(heap, Kind::Minutes, 5, &five(Call::Hold(1)), 3, &held)
+    check_case::<Minutes>(heap, 5, &five(Call::Hold(1)), 3, &held)
 }
 
 #[test]
@@ -127,7 +118,7 @@ fn five_packages_reached(rt: HostRuntime) -> Result<(), Fail> {
         Call::Admit(4, 0, 1),
     ];
     let pairs = [pair(4, 3, 1), pair(2, 2, 1), pair(0, 0, 0), pair(3, 4, 0)];
-    check_case::<Reach>(rt.alloc(), Kind::Reach, 5, &calls, 3, &pairs)
+    check_case::<Reach>(rt.alloc(), 5, &calls, 3, &pairs)
 }
 
 #[test]
@@ -139,7 +130,7 @@ fn longest_times(rt: HostRuntime) -> Result<(), Fail> {
         Call::Admit(1, 3, 5),
     ];
     let pairs = [pair(0, 2, 4294967294), pair(0, 3, NONE), pair(1, 3, 5)];
-    check_case::<Minutes>(rt.alloc(), Kind::Minutes, 4, &calls, 2, &pairs)
+    check_case::<Minutes>(rt.alloc(), 4, &calls, 2, &pairs)
 }
 
 #[test]
@@ -150,5 +141,5 @@ fn licences(rt: HostRuntime) -> Result<(), Fail> {
         Call::Admit(0, 2, 6),
     ];
     let pairs = [pair(0, 2, 6), pair(1, 0, NONE)];
-    check_case::<Licence>(rt.alloc(), Kind::Licence, 3, &calls, 1, &pairs)
+    check_case::<Licence>(rt.alloc(), 3, &calls, 1, &pairs)
 }
