@@ -51,8 +51,7 @@ impl<K: Kind> Scene<K> {
     }
 
     // A ledger after the first calls.
-    fn ledger<'a>(&self, arcs: &'a mut [Arc<K>]) -> Result<Ledger<'a, K>, Fail>
-    {
+    fn ledger<'a>(&self, arcs: &'a mut [Arc<K>]) -> Result<Ledger<'a, K>, Fail> {
         let mut ledger = Ledger::make(Blank { n: self.n, arcs })?;
         let calls = labelled(self.heap, self.first.as_slice())?;
         run(&mut ledger, calls.as_slice());
@@ -72,8 +71,7 @@ impl<K: Kind> Scene<K> {
         top: &mut C,
         mut reference: Reference<u32>,
         seen: &mut Seen,
-    ) -> Result<(), Fail>
-    {
+    ) -> Result<(), Fail> {
         let calls = labelled(self.heap, self.then.as_slice())?;
         run(top, calls.as_slice());
         reference.run(self.then.as_slice())?;
@@ -135,8 +133,7 @@ fn compare<K: Kind, C: Catalogue<Label = K>>(
     c: &C,
     arcs: &[Arc<u32>],
     seen: &mut Seen,
-) -> Result<(), Fail>
-{
+) -> Result<(), Fail> {
     let chains = Chains::new(heap, c.n(), arcs)?;
     check_closed(heap, c, &chains)?;
     count(&mut seen.loops, chains.loops());
