@@ -1,7 +1,7 @@
 -- The laws of width.
 use Rattle.std.specs.Prelude.{◌≡◌, ℕ, ◌^◌, ◌<◌, min, Bool, true, false, cond, Some, None, Option, not, ◌==◌, ◌≢◌, refl}
 use Rattle.std.specs.Bool.{then_some}
-use Rattle.std.proofs.Common.{ap, arith, eqb-true, eq-eqb}
+use Rattle.std.proofs.Common.{ap, sym, subst, arith, eqb-true, eq-eqb}
 use mathlib.Core.HLevel.{is_prop→PathP}
 use Rattle.std.proofs.Math.Bridge.{le_prop}
 use Rattle.std.proofs.lemmas.Bool.{eqb-false}
@@ -45,10 +45,13 @@ width_unnamed w e = go (w == 0) refl e
     go true t k = let f : ◌≡◌ {A = ℕ} 1 0 = ap number_in k in omega arith
     go false t k = let f : min w 4294967295 ≡ 0 = ap number_in k in let n = eqb-false w 0 t in omega (arith, n)
 
+pub width_read : (w : ℕ) (x : Width) → (w == 0) ≡ false → x.value ≡ w → Some x ≡ width_named w
+width_read w x t e = subst (λ b. Some x ≡ cond b None (Some (width_of w))) (sym t) (ap Some (width_same (omega (arith, x.fits))))
+
 -- a width kept where its word is not 0 is the width that the word names
 pub width_then : (w : ℕ) (x : Width) → x.value ≡ w → then_some (not (w == 0)) x ≡ width_named w
-width_then w x e = go (w == 0)
+width_then w x e = go (w == 0) refl
   where
-    go : (b : Bool) → then_some (not b) x ≡ cond b None (Some (width_of w))
-    go true = refl
-    go false = ap Some (width_same (omega arith))
+    go : (b : Bool) → (w == 0) ≡ b → then_some (not b) x ≡ cond b None (Some (width_of w))
+    go true t = refl
+    go false t = subst (λ b. Some x ≡ cond b None (Some (width_of w))) t (width_read w x t e)

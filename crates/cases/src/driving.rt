@@ -32,9 +32,7 @@ impl Seen {
         count(&mut self.no_holds, answer == Err(Refusal::NoHolds));
     }
 
-    fn note_holds<C: Catalogue>(&mut self, c: &C)
-        requires { C.Catalogue.valid c.now }
-    {
+    fn note_holds<C: Catalogue>(&mut self, c: &C) {
         for p in 0..c.n() {
             count(&mut self.held, c.is_held(p));
         }
@@ -51,10 +49,7 @@ pub fn drive<C: Catalogue<Label = Minutes>>(
     c: &mut C,
     reference: &mut Reference<Minutes>,
     calls: u32,
-) -> Result<Seen, Fail>
-    requires { C.Catalogue.valid c.old }
-    ensures { C.Catalogue.valid c.new }
-{
+) -> Result<Seen, Fail> {
     let mut rolls = Rolls::new(20);
     let mut seen = Seen::default();
     compare(c, reference)?;
@@ -70,10 +65,7 @@ pub fn drive<C: Catalogue<Label = Minutes>>(
 }
 
 // As the catalogues' own, but it answers how many arcs were taken out.
-fn make_call<C: Catalogue>(c: &mut C, call: Call<C::Label>) -> Result<usize, Refusal>
-    requires { C.Catalogue.valid c.old }
-    ensures { C.Catalogue.valid c.new }
-{
+fn make_call<C: Catalogue>(c: &mut C, call: Call<C::Label>) -> Result<usize, Refusal> {
     match call {
         Call::Admit(from, to, label) => c.admit(from, to, label).map(|()| 0),
         Call::Withdraw(from, to) => c.withdraw(from, to),
@@ -83,9 +75,10 @@ fn make_call<C: Catalogue>(c: &mut C, call: Call<C::Label>) -> Result<usize, Ref
 }
 
 // Every question, with the packages and places just past the last ones.
-fn compare<C: Catalogue<Label = Minutes>>(c: &C, reference: &Reference<Minutes>) -> Result<(), Fail>
-    requires { C.Catalogue.valid c.now }
-{
+fn compare<C: Catalogue<Label = Minutes>>(
+    c: &C,
+    reference: &Reference<Minutes>,
+) -> Result<(), Fail> {
     check_eq(c.n(), reference.n())?;
     check_eq(c.stock_len(), reference.stock_len())?;
     check_eq(c.places_left(), reference.places_left())?;

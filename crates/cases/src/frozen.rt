@@ -1,6 +1,6 @@
 // A layer that seals what lies below.
 ghost use Rattle.std.specs.Prelude.{◌≡◌};
-ghost use Rattle.cases.specs.Frozen.{sealed_over};
+ghost use Rattle.cases.specs.Frozen.{sealed_over, sealed_sound};
 
 use catalogue::{Catalogue, Layer, Refusal};
 use paths::Arc;
@@ -23,7 +23,7 @@ impl<C: Catalogue> Catalogue for Frozen<C> {
 
     ghost meaning = { λ s. sealed_over (C.Catalogue.meaning s.below) };
 
-    ghost valid = { λ s. C.Catalogue.valid s.below };
+    ghost sound = { λ s. sealed_sound _ _ (C.Catalogue.sound s.below) };
 
     // What is not refused is forwarded method by method: an impl has no shorter form for it.
     fn n(&self) -> u32 {

@@ -56,10 +56,7 @@ fn most_places(rt: HostRuntime) -> Result<(), Fail> {
 }
 
 // Holds packages 0 to `count` - 1, and is refused the next.
-pub fn hold_all<C: Catalogue>(c: &mut C, count: u32) -> Result<(), Fail>
-    requires { C.Catalogue.valid c.old }
-    ensures { C.Catalogue.valid c.new }
-{
+pub fn hold_all<C: Catalogue>(c: &mut C, count: u32) -> Result<(), Fail> {
     for p in 0..count {
         check(c.can_hold())?;
         check_eq(c.hold(p), Ok(()))?;
@@ -71,10 +68,7 @@ pub fn hold_all<C: Catalogue>(c: &mut C, count: u32) -> Result<(), Fail>
 }
 
 // A hold that is lifted leaves its place to another.
-fn hold_another<C: Catalogue>(c: &mut C, lifted: u32, held: u32) -> Result<(), Fail>
-    requires { C.Catalogue.valid c.old }
-    ensures { C.Catalogue.valid c.new }
-{
+fn hold_another<C: Catalogue>(c: &mut C, lifted: u32, held: u32) -> Result<(), Fail> {
     check_eq(c.lift(lifted), Ok(()))?;
     check(!c.is_held(lifted))?;
     check(c.can_hold())?;

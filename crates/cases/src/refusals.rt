@@ -24,10 +24,7 @@ fn gives(call: Call<Minutes>, answer: Result<(), Refusal>) -> Case {
     Case { call, answer }
 }
 
-fn check_cases<C: Catalogue<Label = Minutes>>(c: &mut C, cases: &[Case]) -> Result<(), Fail>
-    requires { C.Catalogue.valid c.old }
-    ensures { C.Catalogue.valid c.new }
-{
+fn check_cases<C: Catalogue<Label = Minutes>>(c: &mut C, cases: &[Case]) -> Result<(), Fail> {
     for case in cases {
         check_eq(make_call(c, case.call), case.answer)?;
     }
@@ -153,6 +150,6 @@ fn numbers(rt: HostRuntime) {
         (Refusal::NotCommand, 16),
     ];
     for (refusal, number) in numbers {
-        assert_eq!(rt; refusal.number(), number);
+        assert_eq!(rt; u32::from(refusal), number);
     }
 }

@@ -1,6 +1,4 @@
 // Stacks of catalogues against the reference, over long runs of calls.
-ghost use Rattle.catalogue.specs.Refusals.{Stands};
-
 use crate::checks::check;
 use crate::driving::{Seen, drive};
 use crate::frozen::Frozen;
@@ -27,9 +25,7 @@ fn first_calls() -> [Call<Minutes>; 4] {
 }
 
 // A ledger of `n` packages with those arcs.
-fn stocked<'a>(n: u32, arcs: &'a mut [Arc<Minutes>]) -> Result<Ledger<'a, Minutes>, Refusal>
-    ensures { Stands ⟦<Ledger<'a, Minutes> as Catalogue>⟧.valid result }
-{
+fn stocked<'a>(n: u32, arcs: &'a mut [Arc<Minutes>]) -> Result<Ledger<'a, Minutes>, Refusal> {
     let mut ledger = Ledger::make(Blank { n, arcs })?;
     run(&mut ledger, &first_calls());
     Ok(ledger)

@@ -50,9 +50,7 @@ fn check_labels<K: Kind, C: Catalogue<Label = K>>(
     c: &C,
     table: &mut [K],
     chains: &Chains<K>,
-) -> Result<(), Fail>
-    requires { C.Catalogue.valid c.now }
-{
+) -> Result<(), Fail> {
     for i in 0..chains.n() {
         for j in 0..chains.n() {
             check(label_of(c, table, i, j)? == label(chains.word(i, j)))?;
@@ -66,9 +64,7 @@ pub fn check_closed<K: Kind, C: Catalogue<Label = K>>(
     heap: Global,
     c: &C,
     chains: &Chains<K>,
-) -> Result<(), Fail>
-    requires { C.Catalogue.valid c.now }
-{
+) -> Result<(), Fail> {
     let mut table = unwritten(heap)?;
     let mut changed = unwritten(heap)?;
     let mut found = unwritten(heap)?;

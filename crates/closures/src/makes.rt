@@ -1,6 +1,4 @@
 // Small random catalogues of every kind, over every make and a stack of layers.
-ghost use Rattle.std.specs.Prelude.{IfOk};
-
 use crate::chains::Chains;
 use crate::closed::check_closed;
 use crate::kinds::Kind;
@@ -53,9 +51,7 @@ impl<K: Kind> Scene<K> {
     }
 
     // A ledger after the first calls.
-    fn ledger<'a>(&self, arcs: &'a mut [Arc<K>]) -> Result<Ledger<'a, K>, Fail>
-        ensures { IfOk result ⟦<Ledger<'a, K> as Catalogue>⟧.valid }
-    {
+    fn ledger<'a>(&self, arcs: &'a mut [Arc<K>]) -> Result<Ledger<'a, K>, Fail> {
         let mut ledger = Ledger::make(Blank { n: self.n, arcs })?;
         let calls = labelled(self.heap, self.first.as_slice())?;
         run(&mut ledger, calls.as_slice());
@@ -75,9 +71,7 @@ impl<K: Kind> Scene<K> {
         top: &mut C,
         mut reference: Reference<u32>,
         seen: &mut Seen,
-    ) -> Result<(), Fail>
-        requires { C.Catalogue.valid top.old }
-    {
+    ) -> Result<(), Fail> {
         let calls = labelled(self.heap, self.then.as_slice())?;
         run(top, calls.as_slice());
         reference.run(self.then.as_slice())?;
@@ -139,9 +133,7 @@ fn compare<K: Kind, C: Catalogue<Label = K>>(
     c: &C,
     arcs: &[Arc<u32>],
     seen: &mut Seen,
-) -> Result<(), Fail>
-    requires { C.Catalogue.valid c.now }
-{
+) -> Result<(), Fail> {
     let chains = Chains::new(heap, c.n(), arcs)?;
     check_closed(heap, c, &chains)?;
     count(&mut seen.loops, chains.loops());

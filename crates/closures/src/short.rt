@@ -22,9 +22,7 @@ fn check_short<C: Catalogue<Label = Minutes>>(
     c: &C,
     heap: Global,
     sizes: (u32, u32, u32),
-) -> Result<(), Fail>
-    requires { C.Catalogue.valid c.now }
-{
+) -> Result<(), Fail> {
     let mut table = numbered(heap, sizes.0)?;
     let mut changed = numbered(heap, sizes.1)?;
     let mut found = numbered(heap, sizes.2)?;
