@@ -2,16 +2,11 @@
 use Rattle.std.specs.Prelude.{ℕ, ◌^◌, ◌<◌, min, max, cond, Some, None, Option, ◌==◌}
 use Rattle.std.proofs.Common.{arith}
 use Rattle.labels.specs.Algebra.{Ops}
+pub use Rattle.labels.specs.Fits.{min_fits, top_fits}
 use Rattle.cases.specs.declared.width.Width.{Width}
-
-pub top_fits : (n : ℕ) → min n 4294967295 < 2 ^ 32
-top_fits n = omega arith
 
 pub max_fits : (m n : ℕ) → m < 2 ^ 32 → n < 2 ^ 32 → max m n < 2 ^ 32
 max_fits m n h k = omega arith
-
-pub min_fits : (m n : ℕ) → m < 2 ^ 32 → min m n < 2 ^ 32
-min_fits m n h = omega arith
 
 abbrev pub width_of : ℕ → Width
 width_of n = record { value = min n 4294967295; fits = top_fits n }
