@@ -1,5 +1,5 @@
 // Drives a catalogue and the reference by the same calls, and compares them after each.
-use crate::checks::check_eq;
+use crate::checks::{check, check_eq};
 use crate::counts::count;
 use crate::reference::Reference;
 use crate::rolls::Rolls;
@@ -33,14 +33,12 @@ impl Seen {
     }
 
     fn note_holds<C: Catalogue>(&mut self, c: &C) {
-        for p in 0..c.n() {
-            count(&mut self.held, c.is_held(p));
-        }
-        for k in 0..c.stock_len() {
-            let arc = c.arc_at(k);
-            count(&mut self.in_force, arc.is_some());
-            count(&mut self.hidden, arc.is_none());
-        }
+        let held = (0..c.n()).filter(|p| c.is_held(*p)).count();
+        let places = c.stock_len();
+        let in_force = (0..places).filter(|k| c.arc_at(*k).is_some()).count();
+        self.held = self.held.saturating_add(held);
+        self.in_force = self.in_force.saturating_add(in_force);
+        self.hidden = self.hidden.saturating_add(places.saturating_sub(in_force));
     }
 }
 
@@ -84,11 +82,8 @@ fn compare<C: Catalogue<Label = Minutes>>(
     check_eq(c.places_left(), reference.places_left())?;
     check_eq(c.sealed(), reference.sealed())?;
     check_eq(c.can_hold(), reference.can_hold())?;
-    for p in 0..reference.n().saturating_add(2) {
-        check_eq(c.is_held(p), reference.is_held(p))?;
-    }
-    for k in 0..reference.stock_len().saturating_add(2) {
-        check_eq(c.arc_at(k), reference.arc_at(k))?;
-    }
-    Ok(())
+    let packages = reference.n().saturating_add(2);
+    check((0..packages).all(|p| c.is_held(p) == reference.is_held(p)))?;
+    let places = reference.stock_len().saturating_add(2);
+    check((0..places).all(|k| c.arc_at(k) == reference.arc_at(k)))
 }

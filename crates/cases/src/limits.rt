@@ -57,6 +57,7 @@ fn most_places(rt: HostRuntime) -> Result<(), Fail> {
 
 // Holds packages 0 to `count` - 1, and is refused the next.
 pub fn hold_all<C: Catalogue>(c: &mut C, count: u32) -> Result<(), Fail> {
+    // by number, since a package is one
     for p in 0..count {
         check(c.can_hold())?;
         check_eq(c.hold(p), Ok(()))?;
