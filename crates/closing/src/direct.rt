@@ -4,7 +4,7 @@ ghost use Rattle.paths.specs.Chains.{L};
 ghost use Rattle.paths.specs.Tables.{Shows};
 ghost use Rattle.catalogue.specs.Meanings.{in_force};
 
-use crate::places::place;
+use crate::places::Width;
 use catalogue::Catalogue;
 use labels::Label;
 
@@ -26,16 +26,16 @@ fn join_to<K: Label>(cells: &mut [K], at: usize, label: K)
 }
 
 // Writes L(1): the label of every arc in force, joined into the cell of its ends.
-pub(crate) fn direct<C: Catalogue>(catalogue: &C, n: usize, cells: &mut [C::Label])
-    requires size { n ≡ (C.Catalogue.meaning catalogue.now).n }
-    requires square { length cells.old ≡ n * n }
-    ensures { Shows C.Label.Label.ops n cells.new (L C.Label.Label.ops (in_force (C.Catalogue.meaning catalogue.now)) 1) }
+pub(crate) fn direct<C: Catalogue>(catalogue: &C, cells: &mut [C::Label])
+    requires square { length cells.old ≡ (C.Catalogue.meaning catalogue.now).n * (C.Catalogue.meaning catalogue.now).n }
+    ensures { Shows C.Label.Label.ops (C.Catalogue.meaning catalogue.now).n cells.new (L C.Label.Label.ops (in_force (C.Catalogue.meaning catalogue.now)) 1) }
 {
+    let width = Width::of(catalogue);
     clear(cells);
     let places = catalogue.stock_len();
     for k in 0..places {
         if let Some(arc) = catalogue.arc_at(k) {
-            join_to(cells, place(arc.from, arc.to, n), arc.label);
+            join_to(cells, width.place(arc.from, arc.to), arc.label);
         }
     }
 }

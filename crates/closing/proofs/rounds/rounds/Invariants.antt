@@ -3,8 +3,8 @@ use Rattle.catalogue.specs.Meanings.{in_force}
 use Rattle.tables.proofs.Turns.{Turn}
 use Rattle.closing.proofs.rounds.rounds.Given as goal
 
-abbrev pub invariant-loop-n : goal.invariant-loop-n
-invariant-loop-n g l = Turn g.C.Label.Label.ops (in_force (g.C.Catalogue.meaning l.catalogue)) l.n l.made l.cells l.changed l.found
+abbrev pub invariant-loop-made : goal.invariant-loop-made
+invariant-loop-made g l = Turn g.C.Label.Label.ops (in_force (g.C.Catalogue.meaning l.catalogue)) (g.C.Catalogue.meaning l.catalogue).n l.made l.cells l.changed l.found
 
-abbrev pub decreases-loop-n : goal.decreases-loop-n
-decreases-loop-n g l = l.n - l.made
+abbrev pub decreases-loop-made : goal.decreases-loop-made
+decreases-loop-made g l = (g.C.Catalogue.meaning l.catalogue).n - l.made
