@@ -56,7 +56,7 @@ fn close<C: Catalogue>(
     ))
 }
 
-// L(n) into a table of n × n cells.
+// Writes L(n), and answers the number of rounds: the last is the first that changes nothing.
 fn fill<C: Catalogue>(
     catalogue: &C,
     cells: &mut [C::Label],
@@ -67,21 +67,6 @@ fn fill<C: Catalogue>(
     requires spares { (length changed.old ≡ (C.Catalogue.meaning catalogue.now).n * (C.Catalogue.meaning catalogue.now).n) × (length found.old ≡ (C.Catalogue.meaning catalogue.now).n * (C.Catalogue.meaning catalogue.now).n) }
     ensures table { cells.new ≡ labels C.Label.Label.ops (C.Catalogue.meaning catalogue.now) }
     ensures count { result ≡ rounds_made C.Label.Label.ops (in_force (C.Catalogue.meaning catalogue.now)) (C.Catalogue.meaning catalogue.now).n }
-{
-    rounds(catalogue, cells, changed, found)
-}
-
-// Writes L(n), and answers the number of rounds: the last is the first that changes nothing.
-fn rounds<C: Catalogue>(
-    catalogue: &C,
-    cells: &mut [C::Label],
-    changed: &mut [C::Label],
-    found: &mut [C::Label],
-) -> usize
-    requires square { length cells.old ≡ (C.Catalogue.meaning catalogue.now).n * (C.Catalogue.meaning catalogue.now).n }
-    requires spares { (length changed.old ≡ (C.Catalogue.meaning catalogue.now).n * (C.Catalogue.meaning catalogue.now).n) × (length found.old ≡ (C.Catalogue.meaning catalogue.now).n * (C.Catalogue.meaning catalogue.now).n) }
-    ensures table { Shows C.Label.Label.ops (C.Catalogue.meaning catalogue.now).n cells.new (L C.Label.Label.ops (in_force (C.Catalogue.meaning catalogue.now)) (C.Catalogue.meaning catalogue.now).n) }
-    ensures count { LeastStill C.Label.Label.ops (in_force (C.Catalogue.meaning catalogue.now)) (C.Catalogue.meaning catalogue.now).n result }
 {
     direct(catalogue, cells);
     changed.copy_from_slice(cells);

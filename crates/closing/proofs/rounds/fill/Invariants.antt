@@ -1,7 +1,7 @@
 use Rattle.std.proofs.Common.{◌-◌}
 use Rattle.catalogue.specs.Meanings.{in_force}
 use Rattle.tables.proofs.Turns.{Turn}
-use Rattle.closing.proofs.rounds.rounds.Given as goal
+use Rattle.closing.proofs.rounds.fill.Given as goal
 
 abbrev pub invariant-loop-made : goal.invariant-loop-made
 invariant-loop-made g l = Turn g.C.Label.Label.ops (in_force (g.C.Catalogue.meaning l.catalogue)) (g.C.Catalogue.meaning l.catalogue).n l.made l.cells l.changed l.found
