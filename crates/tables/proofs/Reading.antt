@@ -89,6 +89,3 @@ module _ {K : Type 0} (o : Ops K) (m : Meaning K) (sound : Sound o m) where
         ∙ sym (ap₂ (λ x y. cond {A = Result K ℕ} (x || y) (Err 6) (cond (short m.n (length old)) (Err 13) (Ok (L o (in_force m) m.n f t))))
         (lt-leb m.n f from_in) (lt-leb m.n t to_in)
         ∙ ap (λ x. cond {A = Result K ℕ} x (Err 13) (Ok (L o (in_force m) m.n f t))) (fits (length old) taken))
-
-    pub label_ok : (answer : Result K ℕ) → answer ≡ on_ok (λ cells. get_or cells t o.none) (row_answer new n f) → is_ok answer ≡ true
-    label_ok answer e = ap is_ok (e ∙ read)
