@@ -4,7 +4,7 @@ ghost use Rattle.paths.specs.Tables.{cell, Shows, through, eliminated};
 ghost use Rattle.paths.specs.Closures.{Closure};
 ghost use Rattle.catalogue.specs.Refusals.{answer};
 ghost use Rattle.catalogue.specs.Meanings.{in_force};
-ghost use Rattle.tables.specs.Tables.{Reaches};
+ghost use Rattle.tables.specs.Tables.{Square, Reaches};
 ghost use Rattle.tables.specs.Closings.{labels, elimination_answer, closing_leaves};
 
 use crate::direct::direct;
@@ -36,7 +36,7 @@ fn close<C: Catalogue>(catalogue: &C, table: &mut [C::Label]) -> Result<(), Refu
 
 // L(n) into a table of n × n cells.
 fn fill<C: Catalogue>(catalogue: &C, cells: &mut [C::Label])
-    requires square { length cells.old ≡ (C.Catalogue.meaning catalogue.now).n * (C.Catalogue.meaning catalogue.now).n }
+    requires square { Square (C.Catalogue.meaning catalogue.now).n cells.old }
     ensures { cells.new ≡ labels C.Label.Label.ops (C.Catalogue.meaning catalogue.now) }
 {
     direct(catalogue, cells);
@@ -45,9 +45,10 @@ fn fill<C: Catalogue>(catalogue: &C, cells: &mut [C::Label])
 
 // Package by package, every pair is joined with its way through the package.
 fn eliminate<K: Label>(cells: &mut [K], width: Width)
-    requires square { length cells.old ≡ width.n * width.n }
+    requires square { Square width.n cells.old }
     ensures { Shows K.ops width.n cells.new (eliminated K.ops (cell K.ops width.n cells.old) width.n) }
 {
+    // By number: no slice or iterator holds the packages.
     for k in 0..width.n {
         pass_through(cells, width, k);
     }
@@ -55,7 +56,7 @@ fn eliminate<K: Label>(cells: &mut [K], width: Width)
 
 // Every pair is joined with its way through package `k`: row `k` stays, as no way is better than a part of it.
 fn pass_through<K: Label>(cells: &mut [K], width: Width, k: usize)
-    requires square { length cells.old ≡ width.n * width.n }
+    requires square { Square width.n cells.old }
     requires over { k < width.n }
     ensures { Shows K.ops width.n cells.new (through K.ops k (cell K.ops width.n cells.old)) }
 {
@@ -71,6 +72,7 @@ fn relax_rows<K: Label>(rows: &mut [K], via: &[K], k: usize)
     ensures { Reaches K.ops (length via.now) k (λ j. slice_index_or via.now j K.ops.none) rows.old rows.new }
 {
     let n = via.len();
+    // By index: after a loop over `chunks_exact_mut`, nothing is known of the rows.
     for i in 0..rows.len() / n {
         let first = rows[i * n + k];
         if leads(first) {

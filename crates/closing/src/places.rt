@@ -1,4 +1,6 @@
 // Where the rows and cells of a table of n × n labels lie.
+// Tables stay slices: each method of a struct of a slice and its width has to promise that it keeps both,
+// which takes as many clauses as the slice's length does.
 ghost use Rattle.std.specs.Prelude.{◌≡◌, ◌+◌, ◌*◌, ◌<◌, ◌≤◌};
 
 use catalogue::Catalogue;

@@ -7,7 +7,7 @@ ghost use Rattle.paths.proofs.Steps.{before};
 ghost use Rattle.catalogue.specs.Refusals.{answer};
 ghost use Rattle.catalogue.specs.Meanings.{in_force};
 ghost use Rattle.tables.specs.Closings.{labels, rounds_answer, closing_leaves};
-ghost use Rattle.tables.specs.Tables.{row, put_row, relaxed};
+ghost use Rattle.tables.specs.Tables.{Square, row, put_row, relaxed};
 ghost use Rattle.tables.specs.Settling.{Settled};
 
 use crate::direct::{clear, direct};
@@ -19,6 +19,8 @@ use paths::Arc;
 
 // Closes by rounds: from L(1), each round extends by one arc what changed in the round before.
 // Answers the rounds made; `changed` and `found` are spare tables.
+// Three slices, not a struct of them: nothing is known, after the call, of a part of a table or of a `Vec`'s slice
+// that is lent in a struct.
 pub fn by_rounds<C: Catalogue>(
     catalogue: &C,
     table: &mut [C::Label],
@@ -63,8 +65,8 @@ fn fill<C: Catalogue>(
     changed: &mut [C::Label],
     found: &mut [C::Label],
 ) -> usize
-    requires square { length cells.old ≡ (C.Catalogue.meaning catalogue.now).n * (C.Catalogue.meaning catalogue.now).n }
-    requires spares { (length changed.old ≡ (C.Catalogue.meaning catalogue.now).n * (C.Catalogue.meaning catalogue.now).n) × (length found.old ≡ (C.Catalogue.meaning catalogue.now).n * (C.Catalogue.meaning catalogue.now).n) }
+    requires square { Square (C.Catalogue.meaning catalogue.now).n cells.old }
+    requires spares { (Square (C.Catalogue.meaning catalogue.now).n changed.old) × (Square (C.Catalogue.meaning catalogue.now).n found.old) }
     ensures table { cells.new ≡ labels C.Label.Label.ops (C.Catalogue.meaning catalogue.now) }
     ensures count { result ≡ rounds_made C.Label.Label.ops (in_force (C.Catalogue.meaning catalogue.now)) (C.Catalogue.meaning catalogue.now).n }
 {
@@ -72,6 +74,7 @@ fn fill<C: Catalogue>(
     changed.copy_from_slice(cells);
     clear(found);
     let mut made = 0;
+    // A `for` over the rounds would need an answer after its end, which no closing reaches.
     loop {
         made = one_more(made);
         spread(catalogue, changed, found);
@@ -85,8 +88,8 @@ fn fill<C: Catalogue>(
 fn follow<K: Label>(arc: Arc<K>, width: Width, changed: &[K], found: &mut [K])
     requires from { arc.from < width.n }
     requires to { arc.to < width.n }
-    requires changed { length changed.now ≡ width.n * width.n }
-    requires found { length found.old ≡ width.n * width.n }
+    requires changed { Square width.n changed.now }
+    requires found { Square width.n found.old }
     ensures { found.new ≡ put_row width.n found.old arc.from (relaxed K.ops arc.label (row width.n found.old arc.from) (row width.n changed.now arc.to)) }
 {
     let from = width.row_start(arc.from);
@@ -100,12 +103,13 @@ fn follow<K: Label>(arc: Arc<K>, width: Width, changed: &[K], found: &mut [K])
 
 // Puts every arc in force before what changed, and joins the ways to what was found.
 fn spread<C: Catalogue>(catalogue: &C, changed: &[C::Label], found: &mut [C::Label])
-    requires changed { length changed.now ≡ (C.Catalogue.meaning catalogue.now).n * (C.Catalogue.meaning catalogue.now).n }
-    requires found { length found.old ≡ (C.Catalogue.meaning catalogue.now).n * (C.Catalogue.meaning catalogue.now).n }
+    requires changed { Square (C.Catalogue.meaning catalogue.now).n changed.now }
+    requires found { Square (C.Catalogue.meaning catalogue.now).n found.old }
     ensures { Shows C.Label.Label.ops (C.Catalogue.meaning catalogue.now).n found.new (λ i j. C.Label.Label.ops.join (cell C.Label.Label.ops (C.Catalogue.meaning catalogue.now).n found.old i j) (before C.Label.Label.ops (in_force (C.Catalogue.meaning catalogue.now)) (cell C.Label.Label.ops (C.Catalogue.meaning catalogue.now).n changed.now) i j)) }
 {
     let width = Width::of(catalogue);
     let places = catalogue.stock_len();
+    // By place, as in `direct`.
     for k in 0..places {
         if let Some(arc) = catalogue.arc_at(k) {
             follow(arc, width, changed, found);

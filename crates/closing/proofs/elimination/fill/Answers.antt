@@ -1,4 +1,4 @@
-use Rattle.std.proofs.Common.{refl, ◌∙◌, subst}
+use Rattle.std.proofs.Common.{◌∙◌, subst}
 use Rattle.paths.specs.Tables.{cell, Shows, eliminated}
 use Rattle.tables.proofs.Closed.{eliminated_is}
 use Rattle.closing.proofs.elimination.fill.Goals as goal

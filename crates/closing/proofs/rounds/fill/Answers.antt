@@ -14,9 +14,9 @@ returns-then-not-settle g c =
     let t = c.loop-made in
     let s = c.settle in
     let made = rounds_are_made o m sound met.laws met.absorbs met.exact s.new.cells c.one_more-made.result
-        (s.auto.cells ∙ t.auto.cells ∙ c.direct.auto.cells ∙ c.requires.square)
-        (last o met.laws (in_force m) m.n met.absorbs (in_force_to m o sound) t.made t.cells t.changed t.found c.spread.new.found
-        s.new.cells s.new.changed s.new.found s.result t.invariant c.spread.ensures (omega arith) s.ensures c.one_more-made.result c.one_more-made.ensures c.if-not-settle.true) in
+    (s.auto.cells ∙ t.auto.cells ∙ c.direct.auto.cells ∙ c.requires.square)
+    (last o met.laws (in_force m) m.n met.absorbs (in_force_to m o sound) t.made t.cells t.changed t.found c.spread.new.found
+    s.new.cells s.new.changed s.new.found s.result t.invariant c.spread.ensures (omega arith) s.ensures c.one_more-made.result c.one_more-made.ensures c.if-not-settle.true) in
     record { table = made.0; count = made.1 }
 
 pub loop-made-preserved : goal.loop-made-preserved

@@ -1,4 +1,4 @@
-use Rattle.std.proofs.Common.{◌*◌, sym, refl, ap, ◌∙◌, ap₂, arith}
+use Rattle.std.proofs.Common.{◌*◌, sym, ap, ◌∙◌, ap₂, arith}
 use Rattle.paths.specs.Tables.{cell}
 use Rattle.paths.proofs.Joins.{none_join}
 use Rattle.tables.specs.Tables.{row, put_row, relaxed}
