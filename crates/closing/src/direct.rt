@@ -2,9 +2,10 @@
 ghost use Rattle.std.specs.Prelude.{◌≡◌, ℕ, ◌*◌, ◌<◌, length, slice_index_or, slice_set};
 ghost use Rattle.paths.specs.Chains.{L};
 ghost use Rattle.paths.specs.Tables.{Shows};
+ghost use Rattle.tables.specs.Tables.{Square};
 ghost use Rattle.catalogue.specs.Meanings.{in_force};
 
-use crate::places::place;
+use crate::places::Width;
 use catalogue::Catalogue;
 use labels::Label;
 
@@ -12,6 +13,7 @@ use labels::Label;
 pub(crate) fn clear<K: Label>(cells: &mut [K])
     ensures { (u : ℕ) → u < length cells.old → slice_index_or cells.new u K.ops.none ≡ K.ops.none }
 {
+    // `fill` asks that cloning a label cannot fail, which no law of kinds says.
     for cell in cells.iter_mut() {
         *cell = K::NONE;
     }
@@ -26,16 +28,17 @@ fn join_to<K: Label>(cells: &mut [K], at: usize, label: K)
 }
 
 // Writes L(1): the label of every arc in force, joined into the cell of its ends.
-pub(crate) fn direct<C: Catalogue>(catalogue: &C, n: usize, cells: &mut [C::Label])
-    requires size { n ≡ (C.Catalogue.meaning catalogue.now).n }
-    requires square { length cells.old ≡ n * n }
-    ensures { Shows C.Label.Label.ops n cells.new (L C.Label.Label.ops (in_force (C.Catalogue.meaning catalogue.now)) 1) }
+pub(crate) fn direct<C: Catalogue>(catalogue: &C, cells: &mut [C::Label])
+    requires square { Square (C.Catalogue.meaning catalogue.now).n cells.old }
+    ensures { Shows C.Label.Label.ops (C.Catalogue.meaning catalogue.now).n cells.new (L C.Label.Label.ops (in_force (C.Catalogue.meaning catalogue.now)) 1) }
 {
+    let width = Width::of(catalogue);
     clear(cells);
     let places = catalogue.stock_len();
+    // By place: an iterator over the arcs in force is longer than both loops over them and their proofs.
     for k in 0..places {
         if let Some(arc) = catalogue.arc_at(k) {
-            join_to(cells, place(arc.from, arc.to, n), arc.label);
+            join_to(cells, width.place(arc.from, arc.to), arc.label);
         }
     }
 }

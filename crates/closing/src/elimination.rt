@@ -4,11 +4,11 @@ ghost use Rattle.paths.specs.Tables.{cell, Shows, through, eliminated};
 ghost use Rattle.paths.specs.Closures.{Closure};
 ghost use Rattle.catalogue.specs.Refusals.{answer};
 ghost use Rattle.catalogue.specs.Meanings.{in_force};
-ghost use Rattle.tables.specs.Tables.{Reaches};
+ghost use Rattle.tables.specs.Tables.{Square, Reaches};
 ghost use Rattle.tables.specs.Closings.{labels, elimination_answer, closing_leaves};
 
 use crate::direct::direct;
-use crate::places::area;
+use crate::places::Width;
 use crate::relax::{leads, relax_row};
 use catalogue::{Catalogue, Refusal};
 use labels::Label;
@@ -26,45 +26,42 @@ fn close<C: Catalogue>(catalogue: &C, table: &mut [C::Label]) -> Result<(), Refu
     ensures answers { answer result ≡ elimination_answer C.Label.Label.ops (C.Catalogue.meaning catalogue.now) (length table.old) }
     ensures leaves { table.new ≡ closing_leaves C.Label.Label.ops (C.Catalogue.meaning catalogue.now) (answer result) table.old }
 {
-    let n = catalogue.n() as usize;
-    let cells = area(n);
+    let cells = Width::of(catalogue).area();
     if table.len() < cells {
         return Err(Refusal::ShortBuffer);
     }
-    fill(catalogue, n, &mut table[..cells]);
+    fill(catalogue, &mut table[..cells]);
     Ok(())
 }
 
 // L(n) into a table of n × n cells.
-fn fill<C: Catalogue>(catalogue: &C, n: usize, cells: &mut [C::Label])
-    requires size { n ≡ (C.Catalogue.meaning catalogue.now).n }
-    requires square { length cells.old ≡ n * n }
+fn fill<C: Catalogue>(catalogue: &C, cells: &mut [C::Label])
+    requires square { Square (C.Catalogue.meaning catalogue.now).n cells.old }
     ensures { cells.new ≡ labels C.Label.Label.ops (C.Catalogue.meaning catalogue.now) }
 {
-    direct(catalogue, n, cells);
-    eliminate(cells, n);
+    direct(catalogue, cells);
+    eliminate(cells, Width::of(catalogue));
 }
 
 // Package by package, every pair is joined with its way through the package.
-fn eliminate<K: Label>(cells: &mut [K], n: usize)
-    requires square { length cells.old ≡ n * n }
-    requires few { n ≤ 1024 }
-    ensures { Shows K.ops n cells.new (eliminated K.ops (cell K.ops n cells.old) n) }
+fn eliminate<K: Label>(cells: &mut [K], width: Width)
+    requires square { Square width.n cells.old }
+    ensures { Shows K.ops width.n cells.new (eliminated K.ops (cell K.ops width.n cells.old) width.n) }
 {
-    for k in 0..n {
-        pass_through(cells, n, k);
+    // By number: no slice or iterator holds the packages.
+    for k in 0..width.n {
+        pass_through(cells, width, k);
     }
 }
 
 // Every pair is joined with its way through package `k`: row `k` stays, as no way is better than a part of it.
-fn pass_through<K: Label>(cells: &mut [K], n: usize, k: usize)
-    requires square { length cells.old ≡ n * n }
-    requires few { n ≤ 1024 }
-    requires over { k < n }
-    ensures { Shows K.ops n cells.new (through K.ops k (cell K.ops n cells.old)) }
+fn pass_through<K: Label>(cells: &mut [K], width: Width, k: usize)
+    requires square { Square width.n cells.old }
+    requires over { k < width.n }
+    ensures { Shows K.ops width.n cells.new (through K.ops k (cell K.ops width.n cells.old)) }
 {
-    let (before, rest) = cells.split_at_mut(k * n);
-    let (via, after) = rest.split_at_mut(n);
+    let (before, rest) = cells.split_at_mut(k * width.n);
+    let (via, after) = rest.split_at_mut(width.n);
     relax_rows(before, via, k);
     relax_rows(after, via, k);
 }
@@ -72,10 +69,10 @@ fn pass_through<K: Label>(cells: &mut [K], n: usize, k: usize)
 // Every pair of the rows is joined with its way through package `k`, whose row is `via`.
 fn relax_rows<K: Label>(rows: &mut [K], via: &[K], k: usize)
     requires over { k < length via.now }
-    requires few { length via.now ≤ 1024 }
     ensures { Reaches K.ops (length via.now) k (λ j. slice_index_or via.now j K.ops.none) rows.old rows.new }
 {
     let n = via.len();
+    // By index: after a loop over `chunks_exact_mut`, nothing is known of the rows.
     for i in 0..rows.len() / n {
         let first = rows[i * n + k];
         if leads(first) {

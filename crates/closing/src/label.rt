@@ -23,10 +23,8 @@ pub fn label_of<C: Catalogue>(
     if either_outside(n, from, to) {
         return Err(Refusal::NoPackage);
     }
-    match by_elimination(catalogue, table) {
-        Ok(()) => cell(table, n, from, to),
-        Err(refusal) => Err(refusal),
-    }
+    by_elimination(catalogue, table)?;
+    cell(table, n, from, to)
 }
 
 // Is one of the two no package?
@@ -41,8 +39,6 @@ fn cell<K: Label>(table: &[K], n: u32, from: u32, to: u32) -> Result<K, Refusal>
     requires { to < n }
     ensures { answer result ≡ on_ok (λ cells. slice_index_or cells to K.ops.none) (row_answer table.now n from) }
 {
-    match row(table, n, from) {
-        Ok(cells) => Ok(cells[to as usize]),
-        Err(refusal) => Err(refusal),
-    }
+    let cells = row(table, n, from)?;
+    Ok(cells[to as usize])
 }

@@ -1,32 +1,50 @@
 // Where the rows and cells of a table of n × n labels lie.
+// Tables stay slices: each method of a struct of a slice and its width has to promise that it keeps both,
+// which takes as many clauses as the slice's length does.
 ghost use Rattle.std.specs.Prelude.{◌≡◌, ◌+◌, ◌*◌, ◌<◌, ◌≤◌};
 
-// Where row `i` starts.
-pub(crate) fn row_start(i: u32, n: usize) -> usize
-    requires few { n ≤ 1024 }
-    requires row { i < n }
-    ensures is { result ≡ i * n }
-    ensures within { result + n ≤ n * n }
-{
-    i as usize * n
+use catalogue::Catalogue;
+
+// The number of packages, which is how many rows and columns a table has.
+#[derive(Clone, Copy)]
+pub(crate) struct Width {
+    pub(crate) n: usize,
+    ghost few: { n ≤ 1024 },
 }
 
-// The place of the pair (i, j).
-pub(crate) fn place(i: u32, j: u32, n: usize) -> usize
-    requires few { n ≤ 1024 }
-    requires row { i < n }
-    requires column { j < n }
-    ensures is { result ≡ i * n + j }
-    ensures below { result < n * n }
-{
-    row_start(i, n) + j as usize
-}
+impl Width {
+    pub(crate) fn of<C: Catalogue>(catalogue: &C) -> Width
+        ensures { result.n ≡ (C.Catalogue.meaning catalogue.now).n }
+    {
+        Width {
+            n: catalogue.n() as usize,
+        }
+    }
 
-// The number of cells.
-pub(crate) fn area(n: usize) -> usize
-    requires { n ≤ 1024 }
-    ensures is { result ≡ n * n }
-    ensures most { result ≤ 1048576 }
-{
-    n * n
+    // Where row `i` starts.
+    pub(crate) fn row_start(self, i: u32) -> usize
+        requires row { i < self.n }
+        ensures is { result ≡ i * self.n }
+        ensures within { result + self.n ≤ self.n * self.n }
+    {
+        i as usize * self.n
+    }
+
+    // The place of the pair (i, j).
+    pub(crate) fn place(self, i: u32, j: u32) -> usize
+        requires row { i < self.n }
+        requires column { j < self.n }
+        ensures is { result ≡ i * self.n + j }
+        ensures below { result < self.n * self.n }
+    {
+        self.row_start(i) + j as usize
+    }
+
+    // The number of cells.
+    pub(crate) fn area(self) -> usize
+        ensures is { result ≡ self.n * self.n }
+        ensures most { result ≤ 1048576 }
+    {
+        self.n * self.n
+    }
 }

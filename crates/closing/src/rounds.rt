@@ -7,11 +7,11 @@ ghost use Rattle.paths.proofs.Steps.{before};
 ghost use Rattle.catalogue.specs.Refusals.{answer};
 ghost use Rattle.catalogue.specs.Meanings.{in_force};
 ghost use Rattle.tables.specs.Closings.{labels, rounds_answer, closing_leaves};
-ghost use Rattle.tables.specs.Tables.{row, put_row, relaxed};
+ghost use Rattle.tables.specs.Tables.{Square, row, put_row, relaxed};
 ghost use Rattle.tables.specs.Settling.{Settled};
 
 use crate::direct::{clear, direct};
-use crate::places::{area, row_start};
+use crate::places::Width;
 use crate::relax::relax_row;
 use catalogue::{Catalogue, Refusal};
 use labels::Label;
@@ -19,6 +19,8 @@ use paths::Arc;
 
 // Closes by rounds: from L(1), each round extends by one arc what changed in the round before.
 // Answers the rounds made; `changed` and `found` are spare tables.
+// Three slices, not a struct of them: nothing is known, after the call, of a part of a table or of a `Vec`'s slice
+// that is lent in a struct.
 pub fn by_rounds<C: Catalogue>(
     catalogue: &C,
     table: &mut [C::Label],
@@ -44,58 +46,38 @@ fn close<C: Catalogue>(
     ensures leaves { table.new ≡ closing_leaves C.Label.Label.ops (C.Catalogue.meaning catalogue.now) (answer result) table.old }
     ensures spares { is_ok (answer result) ≡ false → (changed.new ≡ changed.old) × (found.new ≡ found.old) }
 {
-    let n = catalogue.n() as usize;
-    let cells = area(n);
+    let cells = Width::of(catalogue).area();
     if table.len() < cells || changed.len() < cells || found.len() < cells {
         return Err(Refusal::ShortBuffer);
     }
     Ok(fill(
         catalogue,
-        n,
         &mut table[..cells],
         &mut changed[..cells],
         &mut found[..cells],
     ))
 }
 
-// L(n) into a table of n × n cells.
+// Writes L(n), and answers the number of rounds: the last is the first that changes nothing.
 fn fill<C: Catalogue>(
     catalogue: &C,
-    n: usize,
     cells: &mut [C::Label],
     changed: &mut [C::Label],
     found: &mut [C::Label],
 ) -> usize
-    requires size { n ≡ (C.Catalogue.meaning catalogue.now).n }
-    requires square { length cells.old ≡ n * n }
-    requires spares { (length changed.old ≡ n * n) × (length found.old ≡ n * n) }
+    requires square { Square (C.Catalogue.meaning catalogue.now).n cells.old }
+    requires spares { (Square (C.Catalogue.meaning catalogue.now).n changed.old) × (Square (C.Catalogue.meaning catalogue.now).n found.old) }
     ensures table { cells.new ≡ labels C.Label.Label.ops (C.Catalogue.meaning catalogue.now) }
     ensures count { result ≡ rounds_made C.Label.Label.ops (in_force (C.Catalogue.meaning catalogue.now)) (C.Catalogue.meaning catalogue.now).n }
 {
-    rounds(catalogue, n, cells, changed, found)
-}
-
-// Writes L(n), and answers the number of rounds: the last is the first that changes nothing.
-fn rounds<C: Catalogue>(
-    catalogue: &C,
-    n: usize,
-    cells: &mut [C::Label],
-    changed: &mut [C::Label],
-    found: &mut [C::Label],
-) -> usize
-    requires size { n ≡ (C.Catalogue.meaning catalogue.now).n }
-    requires square { length cells.old ≡ n * n }
-    requires spares { (length changed.old ≡ n * n) × (length found.old ≡ n * n) }
-    ensures table { Shows C.Label.Label.ops n cells.new (L C.Label.Label.ops (in_force (C.Catalogue.meaning catalogue.now)) n) }
-    ensures count { LeastStill C.Label.Label.ops (in_force (C.Catalogue.meaning catalogue.now)) n result }
-{
-    direct(catalogue, n, cells);
+    direct(catalogue, cells);
     changed.copy_from_slice(cells);
     clear(found);
     let mut made = 0;
+    // A `for` over the rounds would need an answer after its end, which no closing reaches.
     loop {
         made = one_more(made);
-        spread(catalogue, n, changed, found);
+        spread(catalogue, changed, found);
         if !settle(cells, changed, found) {
             return made;
         }
@@ -103,30 +85,34 @@ fn rounds<C: Catalogue>(
 }
 
 // Joins to the row of the arc's start what the arc leads to: its label extended by the row of its end.
-fn follow<K: Label>(arc: Arc<K>, n: usize, changed: &[K], found: &mut [K])
-    requires few { n ≤ 1024 }
-    requires from { arc.from < n }
-    requires to { arc.to < n }
-    requires changed { length changed.now ≡ n * n }
-    requires found { length found.old ≡ n * n }
-    ensures { found.new ≡ put_row n found.old arc.from (relaxed K.ops arc.label (row n found.old arc.from) (row n changed.now arc.to)) }
+fn follow<K: Label>(arc: Arc<K>, width: Width, changed: &[K], found: &mut [K])
+    requires from { arc.from < width.n }
+    requires to { arc.to < width.n }
+    requires changed { Square width.n changed.now }
+    requires found { Square width.n found.old }
+    ensures { found.new ≡ put_row width.n found.old arc.from (relaxed K.ops arc.label (row width.n found.old arc.from) (row width.n changed.now arc.to)) }
 {
-    let from = row_start(arc.from, n);
-    let to = row_start(arc.to, n);
-    relax_row(&mut found[from..from + n], &changed[to..to + n], arc.label);
+    let from = width.row_start(arc.from);
+    let to = width.row_start(arc.to);
+    relax_row(
+        &mut found[from..from + width.n],
+        &changed[to..to + width.n],
+        arc.label,
+    );
 }
 
 // Puts every arc in force before what changed, and joins the ways to what was found.
-fn spread<C: Catalogue>(catalogue: &C, n: usize, changed: &[C::Label], found: &mut [C::Label])
-    requires size { n ≡ (C.Catalogue.meaning catalogue.now).n }
-    requires changed { length changed.now ≡ n * n }
-    requires found { length found.old ≡ n * n }
-    ensures { Shows C.Label.Label.ops n found.new (λ i j. C.Label.Label.ops.join (cell C.Label.Label.ops n found.old i j) (before C.Label.Label.ops (in_force (C.Catalogue.meaning catalogue.now)) (cell C.Label.Label.ops n changed.now) i j)) }
+fn spread<C: Catalogue>(catalogue: &C, changed: &[C::Label], found: &mut [C::Label])
+    requires changed { Square (C.Catalogue.meaning catalogue.now).n changed.now }
+    requires found { Square (C.Catalogue.meaning catalogue.now).n found.old }
+    ensures { Shows C.Label.Label.ops (C.Catalogue.meaning catalogue.now).n found.new (λ i j. C.Label.Label.ops.join (cell C.Label.Label.ops (C.Catalogue.meaning catalogue.now).n found.old i j) (before C.Label.Label.ops (in_force (C.Catalogue.meaning catalogue.now)) (cell C.Label.Label.ops (C.Catalogue.meaning catalogue.now).n changed.now) i j)) }
 {
+    let width = Width::of(catalogue);
     let places = catalogue.stock_len();
+    // By place, as in `direct`.
     for k in 0..places {
         if let Some(arc) = catalogue.arc_at(k) {
-            follow(arc, n, changed, found);
+            follow(arc, width, changed, found);
         }
     }
 }

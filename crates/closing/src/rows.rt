@@ -3,7 +3,7 @@ ghost use Rattle.std.specs.Prelude.{◌≡◌};
 ghost use Rattle.catalogue.specs.Refusals.{meant};
 ghost use Rattle.tables.specs.Rows.{row_answer};
 
-use crate::places::{area, row_start};
+use crate::places::Width;
 use catalogue::{Refusal, count_fits};
 
 // The n cells of package `p`: labels, or the bytes of a set.
@@ -13,13 +13,13 @@ pub fn row<T>(table: &[T], n: u32, p: u32) -> Result<&[T], Refusal>
     if !count_fits(n) {
         return Err(Refusal::BadCount);
     }
-    let width = n as usize;
-    if table.len() < area(width) {
+    let width = Width { n: n as usize };
+    if table.len() < width.area() {
         return Err(Refusal::ShortBuffer);
     }
     if p >= n {
         return Err(Refusal::NoPackage);
     }
-    let from = row_start(p, width);
-    Ok(&table[from..from + width])
+    let from = width.row_start(p);
+    Ok(&table[from..from + width.n])
 }

@@ -42,8 +42,8 @@ module _ {K : Type 0} (m : Meaning K) where
   answered_in o n k a s e at = let ok = answered_ok o k a s at in record { few = omega (arith, s.most); from_in = omega (arith, ok.from_in); to_in = omega (arith, ok.to_in) }
 
   -- an arc in force ends below n
-  pub in_force_to : (o : Ops K) (n : ℕ) → Sound o m → n ≡ m.n → (a : Arc K) → Mem a (in_force m) → a.to < n
-  in_force_to o n s e a h = omega (arith, (mem_all (ArcOk o m.n) (in_force m) a (all_kept_by (free_ends m) (ArcOk o m.n) m.stock s.arcs) h).to_in)
+  pub in_force_to : (o : Ops K) → Sound o m → (a : Arc K) → Mem a (in_force m) → a.to < m.n
+  in_force_to o s a h = (mem_all (ArcOk o m.n) (in_force m) a (all_kept_by (free_ends m) (ArcOk o m.n) m.stock s.arcs) h).to_in
 
   -- the arcs in force among the first k places
   abbrev pub first_arcs : ℕ → List (Arc K)

@@ -52,7 +52,3 @@ module _ {K : Type 0} (o : Ops K) (m : Meaning K) where
     part_left answer k old part (omega (arith, e))
         (λ ok. omega (arith, length_part old k cells e, e, long_enough m.n (length (take k old)) _ _ answer (λ b. ap (λ x. x || (short m.n (length (take s changed)) || short m.n (length (take t found)))) b) is ok)) left,
   )
-
-  -- what a closing leaves depends only on whether it was taken
-  pub left_by : {A B : Type 0} (a : Result A ℕ) (b : Result B ℕ) (old new : List K) → is_ok b ≡ is_ok a → new ≡ closing_leaves o m a old → new ≡ closing_leaves o m b old
-  left_by a b old new same left = left ∙ ap (λ t. cond t (closed o m old) old) (sym same)

@@ -1,6 +1,7 @@
 -- Reading a row, and a pair's label from the row of a closed table.
 use Rattle.std.proofs.Common.{◌≡◌, ℕ, ◌+◌, ◌*◌, ◌<◌, ◌≤◌, Bool, true, false, cond, not, ◌&&◌, ◌||◌, leb, List, length, get_or, drop, is_ok, Ok, Err, Result, sym, refl, ap, ◌∙◌, subst, ap₂, true≢false, arith, length-append, ltb-false, le-ltb, le-leb, leb-false}
 use borrow.Author.Tests.{lt-leb}
+use Rattle.std.proofs.lemmas.Bool.{or_parts}
 use Rattle.std.specs.List.{between}
 use Rattle.std.proofs.lemmas.List.Edits.{length-between, get_or-between}
 use Rattle.std.proofs.lemmas.List.{get_or_append_left}
@@ -65,18 +66,14 @@ module _ {K : Type 0} (o : Ops K) (m : Meaning K) (sound : Sound o m) where
 
   module _ (n f t : ℕ) (is : n ≡ m.n) (inside : (leb n f || leb n t) ≡ false)
       (old new : List K) (taken : Ok tt ≡ elimination_answer o m (length old)) (left : new ≡ closed o m old) where
-    neither : (a b : Bool) → (a || b) ≡ false → (a ≡ false) × (b ≡ false)
-    neither true b e = absurd (true≢false e)
-    neither false b e = (refl, e)
-
     below : (p : ℕ) → leb n p ≡ false → p < m.n
     below p e = subst (λ k. p < k) is (leb-false n p e)
 
     from_in : f < m.n
-    from_in = below f (neither (leb n f) (leb n t) inside).0
+    from_in = below f (or_parts (leb n f) (leb n t) inside).0
 
     to_in : t < m.n
-    to_in = below t (neither (leb n f) (leb n t) inside).1
+    to_in = below t (or_parts (leb n f) (leb n t) inside).1
 
     read : on_ok (λ cells. get_or cells t o.none) (row_answer new n f) ≡ Ok (L o (in_force m) m.n f t)
     read =
@@ -89,6 +86,3 @@ module _ {K : Type 0} (o : Ops K) (m : Meaning K) (sound : Sound o m) where
         ∙ sym (ap₂ (λ x y. cond {A = Result K ℕ} (x || y) (Err 6) (cond (short m.n (length old)) (Err 13) (Ok (L o (in_force m) m.n f t))))
         (lt-leb m.n f from_in) (lt-leb m.n t to_in)
         ∙ ap (λ x. cond {A = Result K ℕ} x (Err 13) (Ok (L o (in_force m) m.n f t))) (fits (length old) taken))
-
-    pub label_ok : (answer : Result K ℕ) → answer ≡ on_ok (λ cells. get_or cells t o.none) (row_answer new n f) → is_ok answer ≡ true
-    label_ok answer e = ap is_ok (e ∙ read)

@@ -1,6 +1,8 @@
 -- What was found is joined to the cells one after the other.
 use Rattle.std.proofs.Common.{◌≡◌, ℕ, ◌+◌, ◌<◌, ◌≤◌, Bool, true, false, cond, not, ◌||◌, ◌≢◌, List, length, get_or, set, sym, refl, ap, ◌∙◌, ap₂, true≢false, arith, get_or-set_other, get_or-set_same, below_more}
 use mathlib.Core.Bool.{false≢true}
+use borrow.Author.Tests.{not-false}
+use Rattle.std.proofs.lemmas.Bool.{or_parts}
 use Rattle.std.proofs.lemmas.List.{get_or_default}
 use Rattle.labels.specs.Algebra.{Ops, Laws, Absorbs, Exact}
 use Rattle.paths.proofs.Joins.{none_join}
@@ -13,17 +15,9 @@ pub record Swept {K : Type 0} (o : Ops K) (were ways cells changed found : List 
   pub cells_later : (v : ℕ) → u ≤ v → get_or cells v o.none ≡ get_or were v o.none
   pub found_later : (v : ℕ) → u ≤ v → get_or found v o.none ≡ get_or ways v o.none
 
-either_false : (a b : Bool) → (a || b) ≡ false → (a ≡ false) × (b ≡ false)
-either_false true b e = absurd (true≢false e)
-either_false false b e = (refl, e)
-
 second_true : (a b : Bool) → (a || b) ≡ true → (a ≡ true → ⊥) → b ≡ true
 second_true true b e n = absurd (n refl)
 second_true false b e n = e
-
-not_true : (a : Bool) → not a ≡ false → a ≡ true
-not_true true e = refl
-not_true false e = absurd (true≢false e)
 
 module _ {K : Type 0} (o : Ops K) where
   pub swept_none : (cells changed found : List K) → Swept o cells found cells changed found 0 false
@@ -42,7 +36,7 @@ module _ {K : Type 0} (o : Ops K) where
   module _ (laws : Laws o) (absorbs : Absorbs o) (exact : Exact o) where
     told_here : (r : Bool) (old way : K) → r ≡ not (o.same (o.join old way) old) → o.join old (cond r (o.join old way) o.none) ≡ o.join old way
     told_here true old way d = sym (laws.join_assoc old old way) ∙ ap (λ x. o.join x way) (under_refl o laws absorbs old)
-    told_here false old way d = none_join o laws old ∙ sym (exact.sound (o.join old way) old (not_true _ (sym d)))
+    told_here false old way d = none_join o laws old ∙ sym (exact.sound (o.join old way) old (not-false _ (sym d)))
 
     -- one more cell, where x is the new label, y what is kept of it and z what stays found
     module _ (were ways cells changed found : List K) (u : ℕ) (was way x y z : K) (moved here : Bool)
@@ -78,10 +72,10 @@ module _ {K : Type 0} (o : Ops K) where
               (ap₂ o.join (sym old) (get_or-set_same changed u y o.none in_changed ∙ q) ∙ told_here here _ _ s ∙ sym new);
           clean = below_more (λ v. get_or (set found u z) v o.none ≡ o.none) u
               (λ v h. get_or-set_other found u v z o.none (omega arith) ∙ swept.settled.clean v h) (get_or-set_same found u z o.none in_found ∙ r);
-          still = λ e. let f = either_false moved here e in
+          still = λ e. let f = or_parts moved here e in
               below_more (λ v. get_or (set cells u x) v o.none ≡ get_or were v o.none) u
               (λ v h. other v (omega arith) ∙ swept.settled.still f.0 v h)
-              (new ∙ exact.sound _ _ (not_true _ (sym s ∙ f.1)) ∙ old);
+              (new ∙ exact.sound _ _ (not-false _ (sym s ∙ f.1)) ∙ old);
           stirred = λ e all.
               let here_true : here ≡ true = second_true moved here e (λ t. swept.settled.stirred t (λ v h. sym (other v (omega arith)) ∙ all v (omega arith))) in
               true≢false (sym here_true ∙ as_was (all u (omega arith)));

@@ -1,7 +1,7 @@
 -- The table of single arcs, arc by arc.
-use Rattle.std.proofs.Common.{◌≡◌, ℕ, ◌+◌, ◌*◌, ◌/◌, ◌%◌, ◌<◌, Bool, true, false, cond, eqb, ◌≢◌, List, [], ◌∷◌, ◌++◌, length, get_or, set, Some, sym, refl, ap, ◌∙◌, subst, ap₂, get_or-set_other, get_or-set_same, eq-eqb, ne_eqb}
+use Rattle.std.proofs.Common.{◌≡◌, ℕ, ◌+◌, ◌*◌, ◌<◌, Bool, true, false, cond, eqb, ◌≢◌, List, [], ◌∷◌, ◌++◌, length, get_or, set, Some, sym, refl, ap, ◌∙◌, subst, ap₂, get_or-set_other, get_or-set_same, eq-eqb, ne_eqb}
 use native.Mathlib.Decide.{ℕ_discrete}
-use Rattle.std.proofs.lemmas.Nat.{mul-add-lt, div-mul-add, mod-mul-add}
+use Rattle.std.proofs.lemmas.Nat.{mul-add-lt, same_from_place}
 use Rattle.labels.specs.Algebra.{Ops, Laws}
 use Rattle.paths.specs.declared.arc.Arc.{Arc}
 use Rattle.paths.specs.Chains.{join_over, L}
@@ -55,17 +55,18 @@ module _ {K : Type 0} (o : Ops K) (laws : Laws o) where
           subst (λ k. get_or (set cells at value) k o.none ≡ o.join (cell o n cells i j) (alone o a i j)) (ap₂ (λ p q. p * n + q) e f)
           (rw get_or-set_same (ap₂ o.join (ap₂ (cell o n cells) e f)
           (sym (ap₂ (λ b d. cond b (cond d a.label o.none) o.none) (eq-eqb a.from i e) (eq-eqb a.to j f)))))
-      go (no e) d = other (λ p. e (sym (div-mul-add a.from n a.to ht) ∙ ap (λ x. x / n) p ∙ div-mul-add i n j hj))
+      go (no e) d = other (λ p. e (same_from_place a.from a.to i j n ht hj p).0)
           (ap (λ b. cond b (cond (eqb a.to j) a.label o.none) o.none) (ne_eqb a.from i e))
-      go (yes e) (no f) = other (λ p. f (sym (mod-mul-add a.from n a.to ht) ∙ ap (λ x. x % n) p ∙ mod-mul-add i n j hj))
+      go (yes e) (no f) = other (λ p. f (same_from_place a.from a.to i j n ht hj p).1)
           (ap₂ (λ b d. cond b (cond d a.label o.none) o.none) (eq-eqb a.from i e) (ne_eqb a.to j f))
 
   -- L(1) of one place more
-  module _ (m : Meaning K) (n k : ℕ) (cells : List K) (along : Along m o n (λ arcs. L o arcs 1) k cells) where
-    pub singles_more : Sound o m → n ≡ m.n → length cells ≡ n * n → (a : Arc K) → Some a ≡ arc_at m k → (at : ℕ) → at ≡ a.from * n + a.to
-        → (after next : List K) → after ≡ next → next ≡ set cells at (o.join (get_or cells at o.none) a.label) → Along m o n (λ arcs. L o arcs 1) (k + 1) after
-    singles_more sound size long a e at is after next same made =
-        let inside = answered_in m o n k a sound size e in
+  module _ (m : Meaning K) (k : ℕ) (cells : List K) (along : Along m o m.n (λ arcs. L o arcs 1) k cells) where
+    pub singles_more : Sound o m → length cells ≡ m.n * m.n → (a : Arc K) → Some a ≡ arc_at m k → (at : ℕ) → at ≡ a.from * m.n + a.to
+        → (after next : List K) → after ≡ next → next ≡ set cells at (o.join (get_or cells at o.none) a.label) → Along m o m.n (λ arcs. L o arcs 1) (k + 1) after
+    singles_more sound long a e at is after next same made =
+        let n = m.n in
+        let inside = answered_in m o n k a sound refl e in
         along_some m o n (λ arcs. L o arcs 1) (alone o) singles_push k cells along a e after
         (subst (λ xs. Shows o n xs (λ i j. o.join (cell o n cells i j) (alone o a i j))) (sym (same ∙ made ∙ ap (λ u. set cells u (o.join (get_or cells u o.none) a.label)) is))
         (cell_joined n cells a inside.from_in inside.to_in long))

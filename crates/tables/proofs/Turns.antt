@@ -38,13 +38,14 @@ module _ {K : Type 0} (o : Ops K) (laws : Laws o) where
   joined_or_not false x y = sym (none_join o laws x)
 
   -- one place more
-  module _ (m : Meaning K) (n k : ℕ) (S : ℕ → ℕ → K) (changed found : List K) (along : Along m o n (led o S (cell o n changed)) k found) where
-    pub led_more : Sound o m → n ≡ m.n → length changed ≡ n * n → length found ≡ n * n → (a : Arc K) → Some a ≡ arc_at m k
-        → (after next : List K) → after ≡ next → next ≡ put_row n found a.from (relaxed o a.label (row n found a.from) (row n changed a.to))
-        → Along m o n (led o S (cell o n changed)) (k + 1) after
+  module _ (m : Meaning K) (k : ℕ) (S : ℕ → ℕ → K) (changed found : List K) (along : Along m o m.n (led o S (cell o m.n changed)) k found) where
+    pub led_more : Sound o m → length changed ≡ m.n * m.n → length found ≡ m.n * m.n → (a : Arc K) → Some a ≡ arc_at m k
+        → (after next : List K) → after ≡ next → next ≡ put_row m.n found a.from (relaxed o a.label (row m.n found a.from) (row m.n changed a.to))
+        → Along m o m.n (led o S (cell o m.n changed)) (k + 1) after
     unfolding over_arc
-    led_more sound size long-changed long-found a e after next same made =
-        let inside = answered_in m o n k a sound size e in
+    led_more sound long-changed long-found a e after next same made =
+        let n = m.n in
+        let inside = answered_in m o n k a sound refl e in
         let via = row n changed a.to in
         along_some m o n (led o S (cell o n changed)) (over_arc (cell o n changed)) (led_push S (cell o n changed)) k found along a e after
         (subst (λ xs. Shows o n xs (λ i j. o.join (cell o n found i j) (over_arc (cell o n changed) a i j))) (sym (same ∙ made))
@@ -110,8 +111,8 @@ module _ {K : Type 0} (o : Ops K) (laws : Laws o) (arcs : List (Arc K)) (n : ℕ
     stopped : moved ≡ false → Still o arcs n (suc q)
     stopped e i j hi hj = sym (next i j hi hj) ∙ settle.still e (i * n + j) (in_cells i j hi hj) ∙ turn.shows i j hi hj
 
-    pub last_table : moved ≡ false → Shows o n cells' (L o arcs n)
-    last_table e i j hi hj = next i j hi hj ∙ stopped e i j hi hj ∙ sym (settled o laws arcs n ends (suc q) (stopped e) n turn.few i j hi hj)
-
-    pub last_count : (made : ℕ) → made ≡ q + 1 → moved ≡ false → LeastStill o arcs n made
-    last_count made count e = subst (LeastStill o arcs n) (sym (count ∙ add-one q)) (record { some = omega arith; still = stopped e; least = turn.least })
+    pub last : (made : ℕ) → made ≡ q + 1 → moved ≡ false → Shows o n cells' (L o arcs n) × LeastStill o arcs n made
+    last made count e = (
+      λ i j hi hj. next i j hi hj ∙ stopped e i j hi hj ∙ sym (settled o laws arcs n ends (suc q) (stopped e) n turn.few i j hi hj),
+      subst (LeastStill o arcs n) (sym (count ∙ add-one q)) (record { some = omega arith; still = stopped e; least = turn.least }),
+    )

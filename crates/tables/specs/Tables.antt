@@ -5,6 +5,10 @@ use Rattle.std.specs.List.{between}
 use Rattle.labels.specs.Algebra.{Ops}
 use Rattle.paths.specs.Tables.{cell}
 
+-- so many cells as n × n labels take
+abbrev pub Square : {M : Type 0} → ℕ → List M → Type 0
+Square n cells = length cells ≡ n * n
+
 -- row i
 abbrev pub row : {M : Type 0} → ℕ → List M → ℕ → List M
 row n cells i = between (i * n) (i * n + n) cells

@@ -1,4 +1,4 @@
-use Rattle.std.proofs.Common.{◌+◌, ◌*◌, arith}
+use Rattle.std.proofs.Common.{◌+◌, ◌*◌, ap, ◌∙◌, arith}
 use Rattle.std.proofs.lemmas.Nat.{mul-add-lt}
 use Rattle.paths.specs.Chains.{L}
 use Rattle.tables.proofs.InForce.{answered_in, along_start, along_none}
@@ -9,24 +9,26 @@ use Rattle.closing.proofs.direct.direct.Goals.{in-Some, in_default}
 pub loop-k-init : goal.loop-k-init
 loop-k-init g c =
     let o = g.C.Label.Label.ops in
-    let n = c.args.n in
-    along_start (g.C.Catalogue.meaning c.args.catalogue.now) o n (λ arcs. L o arcs 1) c.clear.new.cells
+    let m = g.C.Catalogue.meaning c.args.catalogue.now in
+    let n = m.n in
+    along_start m o n (λ arcs. L o arcs 1) c.clear.new.cells
     (λ i j hi hj. c.clear.ensures (i * n + j) (omega (arith, mul-add-lt i n j n hi hj, c.requires.square)))
 
 pub place-requires : goal.place-requires
 place-requires g c =
-    let inside = answered_in (g.C.Catalogue.meaning c.args.catalogue.now) g.C.Label.Label.ops c.args.n c.loop-k.k c.in-Some.arc (g.met.C.Catalogue.sound c.args.catalogue.now) c.requires.size c.in-Some.ensures in
-    record { few = inside.few; row = inside.from_in; column = inside.to_in }
+    let m = g.C.Catalogue.meaning c.args.catalogue.now in
+    let inside = answered_in m g.C.Label.Label.ops c.of-width.result.n c.loop-k.k c.in-Some.arc (g.met.C.Catalogue.sound c.args.catalogue.now) c.of-width.ensures c.in-Some.ensures in
+    record { row = inside.from_in; column = inside.to_in }
 
 pub loop-k-preserved : goal.loop-k-preserved
 loop-k-preserved g c =
     let o = g.C.Label.Label.ops in
     let m = g.C.Catalogue.meaning c.args.catalogue.now in
-    let n = c.args.n in
+    let n = m.n in
     let k = c.loop-k.k in
     let cells = c.loop-k.cells in
     elim c.match-arc_at.branch [
-      | in-Some w ↦ singles_more o g.met.C.Label.Label.laws m n k cells c.loop-k.invariant (g.met.C.Catalogue.sound c.args.catalogue.now) c.requires.size (omega (arith, c.loop-k.auto.cells, c.clear.auto.cells, c.requires.square))
-          w.in-Some.arc w.in-Some.ensures w.place.result w.place.ensures.is c.match-arc_at.cells w.join_to.new.cells w.cells-is w.join_to.ensures
+      | in-Some w ↦ singles_more o g.met.C.Label.Label.laws m k cells c.loop-k.invariant (g.met.C.Catalogue.sound c.args.catalogue.now) (omega (arith, c.loop-k.auto.cells, c.clear.auto.cells, c.requires.square))
+          w.in-Some.arc w.in-Some.ensures w.place.result (w.place.ensures.is ∙ ap (λ n. w.in-Some.arc.from * n + w.in-Some.arc.to) c.of-width.ensures) c.match-arc_at.cells w.join_to.new.cells w.cells-is w.join_to.ensures
       | in_default w ↦ along_none m o n (λ arcs. L o arcs 1) k cells c.match-arc_at.cells c.loop-k.invariant w.in_default.ensures w.cells-is
     ]

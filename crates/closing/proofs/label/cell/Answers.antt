@@ -5,15 +5,15 @@ use Rattle.tables.proofs.Reading.{row_length}
 use Rattle.closing.proofs.label.cell.Goals as goal
 
 pub offset_bounds-cells-to : goal.offset_bounds-cells-to
-offset_bounds-cells-to g c = omega (arith, c.requires, row_length c.args.table.now c.args.n c.args.from c.in-Ok.cells.now c.in-Ok.ensures)
+offset_bounds-cells-to g c = omega (arith, c.requires, row_length c.args.table.now c.args.n c.args.from c.in_ok-cells.cells.now c.in_ok-cells.ensures)
 
 pub bounds-cells-to : goal.bounds-cells-to
-bounds-cells-to g c = omega (arith, c.requires, row_length c.args.table.now c.args.n c.args.from c.in-Ok.cells.now c.in-Ok.ensures)
+bounds-cells-to g c = omega (arith, c.requires, row_length c.args.table.now c.args.n c.args.from c.in_ok-cells.cells.now c.in_ok-cells.ensures)
 
-pub returns-in-Ok : goal.returns-in-Ok
-returns-in-Ok g c =
+pub returns : goal.returns
+returns g c =
     let none = g.K.Label.ops.none in
-    let row = c.in-Ok.cells.now in
-    let within : c.args.to < length row = omega (arith, c.requires, row_length c.args.table.now c.args.n c.args.from row c.in-Ok.ensures) in
+    let row = c.in_ok-cells.cells.now in
+    let within : c.args.to < length row = omega (arith, c.requires, row_length c.args.table.now c.args.n c.args.from row c.in_ok-cells.ensures) in
     ap Ok (get_or_read row c.args.to c.index-cells-to.result within c.index-cells-to.is none)
-    ∙ ap (on_ok (λ cells. get_or cells c.args.to none)) c.in-Ok.ensures
+    ∙ ap (on_ok (λ cells. get_or cells c.args.to none)) c.in_ok-cells.ensures

@@ -1,6 +1,7 @@
-use Rattle.std.proofs.Common.{sym, arith}
+use Rattle.std.proofs.Common.{◌*◌, sym, ap, ◌∙◌, ap₂, arith}
 use Rattle.paths.specs.Tables.{cell}
 use Rattle.paths.proofs.Joins.{none_join}
+use Rattle.tables.specs.Tables.{row, put_row, relaxed}
 use Rattle.tables.proofs.InForce.{answered_in, along_start, along_none}
 use Rattle.tables.proofs.Turns.{led, led_more}
 use Rattle.closing.proofs.rounds.spread.Goals as goal
@@ -9,27 +10,33 @@ use Rattle.closing.proofs.rounds.spread.Goals.{in-Some, in_default}
 pub loop-k-init : goal.loop-k-init
 loop-k-init g c =
     let o = g.C.Label.Label.ops in
-    let n = c.args.n in
+    let m = g.C.Catalogue.meaning c.args.catalogue.now in
+    let n = m.n in
     let found = c.args.found.now in
-    along_start (g.C.Catalogue.meaning c.args.catalogue.now) o n (led o (cell o n found) (cell o n c.args.changed.now)) found
+    along_start m o n (led o (cell o n found) (cell o n c.args.changed.now)) found
     (λ i j hi hj. sym (none_join o g.met.C.Label.Label.laws (cell o n found i j)))
 
 pub follow-requires : goal.follow-requires
 follow-requires g c =
-    let inside = answered_in (g.C.Catalogue.meaning c.args.catalogue.now) g.C.Label.Label.ops c.args.n c.loop-k.k c.in-Some.arc (g.met.C.Catalogue.sound c.args.catalogue.now) c.requires.size c.in-Some.ensures in
-    record { few = inside.few; from = inside.from_in; to = inside.to_in; changed = c.requires.changed; found = omega (arith, c.loop-k.auto.found, c.requires.found) }
+    let m = g.C.Catalogue.meaning c.args.catalogue.now in
+    let n = c.of-width.result.n in
+    let is = c.of-width.ensures in
+    let inside = answered_in m g.C.Label.Label.ops n c.loop-k.k c.in-Some.arc (g.met.C.Catalogue.sound c.args.catalogue.now) is c.in-Some.ensures in
+    let area = sym (ap₂ ◌*◌ is is) in
+    record { from = inside.from_in; to = inside.to_in; changed = c.requires.changed ∙ area; found = c.loop-k.auto.found ∙ c.requires.found ∙ area }
 
 pub loop-k-preserved : goal.loop-k-preserved
 loop-k-preserved g c =
     let o = g.C.Label.Label.ops in
     let m = g.C.Catalogue.meaning c.args.catalogue.now in
-    let n = c.args.n in
+    let n = m.n in
     let k = c.loop-k.k in
     let S = cell o n c.args.found.now in
     let changed = c.args.changed.now in
     let found = c.loop-k.found in
     elim c.match-arc_at.branch [
-      | in-Some w ↦ led_more o g.met.C.Label.Label.laws m n k S changed found c.loop-k.invariant (g.met.C.Catalogue.sound c.args.catalogue.now) c.requires.size c.requires.changed (omega (arith, c.loop-k.auto.found, c.requires.found))
-          w.in-Some.arc w.in-Some.ensures c.match-arc_at.found w.follow.new.found w.found-is w.follow.ensures
+      | in-Some w ↦ led_more o g.met.C.Label.Label.laws m k S changed found c.loop-k.invariant (g.met.C.Catalogue.sound c.args.catalogue.now) c.requires.changed (omega (arith, c.loop-k.auto.found, c.requires.found))
+          w.in-Some.arc w.in-Some.ensures c.match-arc_at.found w.follow.new.found w.found-is
+          (w.follow.ensures ∙ ap (λ n. put_row n found w.in-Some.arc.from (relaxed o w.in-Some.arc.label (row n found w.in-Some.arc.from) (row n changed w.in-Some.arc.to))) c.of-width.ensures)
       | in_default w ↦ along_none m o n (led o S (cell o n changed)) k found c.match-arc_at.found c.loop-k.invariant w.in_default.ensures w.found-is
     ]

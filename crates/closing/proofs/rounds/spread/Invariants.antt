@@ -4,4 +4,4 @@ use Rattle.tables.proofs.Turns.{led}
 use Rattle.closing.proofs.rounds.spread.Given as goal
 
 abbrev pub invariant-loop-k : goal.invariant-loop-k
-invariant-loop-k g l = let o = g.C.Label.Label.ops in Along (g.C.Catalogue.meaning l.catalogue) o l.n (led o (cell o l.n l.initial.found) (cell o l.n l.changed)) l.k l.found
+invariant-loop-k g l = let o = g.C.Label.Label.ops in let m = g.C.Catalogue.meaning l.catalogue in Along m o m.n (led o (cell o m.n l.initial.found) (cell o m.n l.changed)) l.k l.found
