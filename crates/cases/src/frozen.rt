@@ -5,6 +5,7 @@ ghost use Rattle.cases.specs.Frozen.{sealed_over, sealed_sound};
 use catalogue::{Catalogue, Layer, Refusal};
 use paths::Arc;
 
+// What it does not change is passed down call by call, as in Turned.
 #[derive(Drop)]
 pub struct Frozen<C: Catalogue> {
     below: C,

@@ -10,6 +10,7 @@ use crate::interface::{Catalogue, Layer, Make};
 use crate::refusal::Refusal;
 use paths::Arc;
 
+// What it does not change is passed down call by call, as in Turned.
 #[derive(Drop)]
 pub struct Holding<C: Catalogue> {
     below: C,

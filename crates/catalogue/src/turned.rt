@@ -12,6 +12,7 @@ use crate::refusal::Refusal;
 use labels::Label;
 use paths::Arc;
 
+// What it does not change is passed down call by call: a trait's forwarding has no shorter form.
 #[derive(Drop)]
 pub struct Turned<C: Catalogue> {
     below: C,

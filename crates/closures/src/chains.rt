@@ -32,6 +32,7 @@ impl<K: Kind> Chains<K> {
                 word: arc.label,
             })
             .collect(heap)?;
+        // by length, since chains of one length make those of the next
         for length in 1..n.saturating_add(1) {
             let mut longer = Vec::new(heap);
             for chain in all.iter().filter(|chain| chain.arcs == length) {

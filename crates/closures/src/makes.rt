@@ -149,6 +149,7 @@ fn sheet_bytes(heap: Global, n: u32, arcs: &[Arc<u32>]) -> Result<Vec<u8>, Alloc
     let mut runs = Vec::new(heap);
     let mut offset = n.saturating_mul(8).saturating_add(4);
     pairs.extend_from_slice(&n.to_le_bytes())?;
+    // by number, since a package without arcs has a pair too
     for p in 0..n {
         let mut length = 0u32;
         for arc in arcs.iter().filter(|arc| arc.from == p) {

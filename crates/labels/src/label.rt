@@ -25,6 +25,7 @@ pub trait Label: Copy + PartialEq {
     fn extend(self, next: Self) -> Self
         ensures { result ≡ ops.extend self next };
 
+    // No `TryFrom`: its error type would say no more than `None`.
     fn from_word(word: u32) -> Option<Self>
         ensures { result ≡ named word };
 
