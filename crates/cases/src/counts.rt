@@ -1,4 +1,4 @@
-// Counts of what tests come by.
+// Counts of what a test has seen.
 ghost use Rattle.std.specs.Prelude.{◌≡◌, ◌<◌, ◌≤◌, IsTrue, false};
 
 // Counts one more where it holds.

@@ -26,7 +26,6 @@ impl<C: Catalogue> Catalogue for Frozen<C> {
 
     ghost sound = { λ s. sealed_sound _ _ (C.Catalogue.sound s.below) };
 
-    // What is not refused is forwarded method by method: an impl has no shorter form for it.
     fn n(&self) -> u32 {
         self.below.n()
     }

@@ -1,10 +1,10 @@
 // The tests' own kind and layer, through code that knows neither.
-use crate::checks::{check, check_eq};
+use crate::checks::check_eq;
 use crate::frozen::Frozen;
 use crate::places::blank;
 use crate::width::Width;
 use catalogue::{Blank, Call, Catalogue, Holding, Layer, Ledger, Make, Refusal, run};
-use exercise::{Answers, Arguments, exercise};
+use exercise::{Answers, Arguments, Outcomes, Replies, exercise};
 use labels::Label;
 use paths::Arc;
 use std::test::Fail;
@@ -57,26 +57,32 @@ fn first_calls() -> [Call<Width>; 5] {
 
 // What the stack of the calls above answers to every question.
 fn check_questions(answers: Answers<Width>, sealed: bool) -> Result<(), Fail> {
-    check_eq(answers.replies.n, 3)?;
-    check_eq(answers.replies.stock_len, 2)?;
-    check_eq(answers.replies.places_left, 2)?;
-    check_eq(answers.replies.sealed, sealed)?;
-    check(!answers.replies.is_held)?;
-    check(answers.replies.can_hold)?;
     let first = Arc {
         from: 0,
         to: 1,
         label: Width { value: 7 },
     };
-    check_eq(answers.replies.arc, Some(first))
+    let replies = Replies {
+        n: 3,
+        stock_len: 2,
+        places_left: 2,
+        sealed,
+        is_held: false,
+        can_hold: true,
+        arc: Some(first),
+    };
+    check_eq(answers.replies, replies)
 }
 
 // `taken` is the answer to the withdrawal; the admission is refused as that is.
 fn check_calls(answers: Answers<Width>, taken: Result<usize, Refusal>) -> Result<(), Fail> {
-    check_eq(answers.outcomes.admit, taken.map(|_| ()))?;
-    check_eq(answers.outcomes.hold, Ok(()))?;
-    check_eq(answers.outcomes.lift, Ok(()))?;
-    check_eq(answers.outcomes.withdraw, taken)
+    let outcomes = Outcomes {
+        admit: taken.map(|_| ()),
+        hold: Ok(()),
+        lift: Ok(()),
+        withdraw: taken,
+    };
+    check_eq(answers.outcomes, outcomes)
 }
 
 #[test]

@@ -85,7 +85,7 @@ impl<L: Copy + PartialEq> Reference<L> {
         Ok(())
     }
 
-    // How many arcs the call took out, or why it was refused.
+    // How many arcs the call took out, or why it was refused; apart from that, memory can run out.
     pub fn call(&mut self, call: Call<L>) -> Result<Result<usize, Refusal>, AllocError> {
         match call {
             Call::Admit(from, to, label) => self.admit(Arc { from, to, label }),

@@ -5,7 +5,7 @@ use crate::frozen::Frozen;
 use crate::places::blank;
 use crate::reference::Reference;
 use catalogue::{Blank, Call, Catalogue, Holding, Layer, Ledger, Make, Refusal, Turned, run};
-use labels::{Label, Minutes};
+use labels::Minutes;
 use paths::Arc;
 use std::alloc::{AllocError, Global};
 use std::test::Fail;
@@ -13,6 +13,8 @@ use std::test::Fail;
 const PLACES: usize = 8;
 
 const CALLS: u32 = 1500;
+
+const NONE: Minutes = Minutes { value: 4294967295 };
 
 // The arcs that a stack has before its layers are laid.
 fn first_calls() -> [Call<Minutes>; 4] {
@@ -31,9 +33,9 @@ fn stocked<'a>(n: u32, arcs: &'a mut [Arc<Minutes>]) -> Result<Ledger<'a, Minute
     Ok(ledger)
 }
 
-// The reference over such a ledger.
+// The reference beside such a ledger.
 fn reference(heap: Global, n: u32, most_held: usize) -> Result<Reference<Minutes>, AllocError> {
-    let mut reference = Reference::new(heap, n, Minutes::NONE, PLACES, most_held);
+    let mut reference = Reference::new(heap, n, NONE, PLACES, most_held);
     reference.run(&first_calls())?;
     Ok(reference)
 }

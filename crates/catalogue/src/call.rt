@@ -1,4 +1,4 @@
-// A call that alters a catalogue, with its arguments.
+// A call that alters a catalogue, with its arguments, which come apart as in `Catalogue::admit`.
 #[derive(Clone, Copy, PartialEq, Eq, Debug)]
 pub enum Call<L> {
     Admit(u32, u32, L),

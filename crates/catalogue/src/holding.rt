@@ -7,6 +7,7 @@ ghost use Rattle.catalogue.specs.Sounds.{held_sound};
 
 use crate::holds::HeldList;
 use crate::interface::{Catalogue, Layer, Make};
+use crate::limits::check_package;
 use crate::refusal::Refusal;
 use paths::Arc;
 
@@ -106,9 +107,7 @@ impl<C: Catalogue> Catalogue for Holding<C> {
 fn check_hold<C: Catalogue>(own: &HeldList, below: &C, p: u32) -> Result<(), Refusal>
     ensures { answer result ≡ (if outside (C.Catalogue.meaning below.now) p then Err 6 else (if (held_over (packages own.now) (C.Catalogue.meaning below.now)).held p then Err 10 else Ok tt)) }
 {
-    if p >= below.n() {
-        return Err(Refusal::NoPackage);
-    }
+    check_package(below.n(), p)?;
     if own.has(p) || below.is_held(p) {
         return Err(Refusal::AlreadyHeld);
     }

@@ -130,6 +130,8 @@ fn check_admit<K: Label>(n: u32, places: usize, from: u32, to: u32, label: K) ->
     Ok(())
 }
 
+// Over the records alone, since a method would owe the ledger's own facts at its end.
+
 // Puts an arc after the first `len`, and answers how many there are then.
 fn append<K: Label>(arcs: &mut [Arc<K>], len: usize, arc: Arc<K>) -> usize
     requires { len < length arcs.old }

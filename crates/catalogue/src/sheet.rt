@@ -1,5 +1,5 @@
 // A catalogue read from bytes.
-ghost use Rattle.std.specs.Prelude.{◌≡◌};
+ghost use Rattle.std.specs.Prelude.{◌≡◌, ◌+◌, ◌-◌, ◌*◌, ◌/◌, length};
 ghost use Rattle.catalogue.specs.Refusals.{meant};
 ghost use Rattle.catalogue.specs.SheetMeanings.{sheet, SheetOk, Exactly};
 ghost use Rattle.catalogue.specs.Sounds.{sheet_sound};
@@ -17,9 +17,8 @@ use std::marker::PhantomData;
 #[derive(Drop)]
 pub struct Sheet<'a, K: Label> {
     reading: Reading<'a>,
-    arcs: usize,
     kind: PhantomData<K>,
-    ghost ok: { SheetOk K.Label.named reading.n arcs reading.bytes.now },
+    ghost ok: { SheetOk K.Label.named reading.n ((length reading.bytes.now - (4 + 8 * reading.n)) / 8) reading.bytes.now },
 }
 
 impl<'a, K: Label> Catalogue for Sheet<'a, K> {
@@ -34,7 +33,7 @@ impl<'a, K: Label> Catalogue for Sheet<'a, K> {
     }
 
     fn stock_len(&self) -> usize {
-        self.arcs
+        self.reading.arcs().len()
     }
 
     fn places_left(&self) -> usize {
@@ -88,7 +87,6 @@ impl<'a, K: Label> Make<&'a [u8]> for Sheet<'a, K> {
         let reading = check_sheet::<K>(bytes)?;
         Ok(Sheet {
             reading,
-            arcs: reading.arcs().len(),
             kind: PhantomData,
         })
     }

@@ -35,7 +35,7 @@ pub(crate) fn direct<C: Catalogue>(catalogue: &C, cells: &mut [C::Label])
     let width = Width::of(catalogue);
     clear(cells);
     let places = catalogue.stock_len();
-    // By place: an iterator over the arcs in force is longer than both loops over them and their proofs.
+    // By place: the check refuses what it writes for a loop over `filter_map` of `arc_at`.
     for k in 0..places {
         if let Some(arc) = catalogue.arc_at(k) {
             join_to(cells, width.place(arc.from, arc.to), arc.label);

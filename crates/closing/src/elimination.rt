@@ -22,6 +22,7 @@ pub fn by_elimination<C: Catalogue>(catalogue: &C, table: &mut [C::Label]) -> Re
     close(catalogue, table)
 }
 
+// The closing itself, apart as in rounds.
 fn close<C: Catalogue>(catalogue: &C, table: &mut [C::Label]) -> Result<(), Refusal>
     ensures answers { answer result ≡ elimination_answer C.Label.Label.ops (C.Catalogue.meaning catalogue.now) (length table.old) }
     ensures leaves { table.new ≡ closing_leaves C.Label.Label.ops (C.Catalogue.meaning catalogue.now) (answer result) table.old }
@@ -48,7 +49,6 @@ fn eliminate<K: Label>(cells: &mut [K], width: Width)
     requires square { Square width.n cells.old }
     ensures { Shows K.ops width.n cells.new (eliminated K.ops (cell K.ops width.n cells.old) width.n) }
 {
-    // By number: no slice or iterator holds the packages.
     for k in 0..width.n {
         pass_through(cells, width, k);
     }

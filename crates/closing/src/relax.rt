@@ -23,6 +23,7 @@ pub(crate) fn relax_row<K: Label>(row: &mut [K], via: &[K], first: K)
     requires { length via.now ≡ length row.old }
     ensures { row.new ≡ relaxed K.ops first row.old via.now }
 {
+    // no `zip`: nothing is known of cells written through one
     for (j, cell) in row.iter_mut().enumerate() {
         *cell = relax(*cell, first, via[j]);
     }

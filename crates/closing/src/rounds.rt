@@ -36,6 +36,8 @@ pub fn by_rounds<C: Catalogue>(
     close(catalogue, table, changed, found)
 }
 
+// The closing itself, apart, so that a wrong step is refused here; `by_rounds` adds what is true of a
+// closed table.
 fn close<C: Catalogue>(
     catalogue: &C,
     table: &mut [C::Label],
@@ -139,13 +141,14 @@ fn settle<K: Label>(cells: &mut [K], changed: &mut [K], found: &mut [K]) -> bool
     ensures { Settled K.ops cells.old found.old cells.new changed.new found.new (length cells.old) result }
 {
     let mut moved = false;
+    // no `zip`, as in `relax_row`
     for (u, cell) in cells.iter_mut().enumerate() {
         moved |= settle_cell(cell, &mut changed[u], &mut found[u]);
     }
     moved
 }
 
-// The rounds made, once there is one more.
+// The rounds made, once there is one more: apart, so that a wrong count is refused here.
 fn one_more(made: usize) -> usize
     requires { made < 1024 }
     ensures { result ≡ made + 1 }

@@ -4,7 +4,7 @@ ghost use Rattle.catalogue.specs.Refusals.{meant};
 ghost use Rattle.tables.specs.Rows.{row_answer};
 
 use crate::places::Width;
-use catalogue::{Refusal, count_fits};
+use catalogue::{Refusal, count_fits, outside};
 
 // The n cells of package `p`: labels, or the bytes of a set.
 pub fn row<T>(table: &[T], n: u32, p: u32) -> Result<&[T], Refusal>
@@ -17,7 +17,7 @@ pub fn row<T>(table: &[T], n: u32, p: u32) -> Result<&[T], Refusal>
     if table.len() < width.area() {
         return Err(Refusal::ShortBuffer);
     }
-    if p >= n {
+    if outside(n, p) {
         return Err(Refusal::NoPackage);
     }
     let from = width.row_start(p);

@@ -33,7 +33,7 @@ impl<K: Kind> Chains<K> {
             })
             .collect(heap)?;
         // by length, since chains of one length make those of the next
-        for length in 1..n.saturating_add(1) {
+        for length in 1..=n {
             let mut longer = Vec::new(heap);
             for chain in all.iter().filter(|chain| chain.arcs == length) {
                 for arc in arcs.iter().filter(|arc| arc.from == chain.to) {
@@ -79,9 +79,7 @@ impl<K: Kind> Chains<K> {
 
     // The least m of 1 or more with L(m + 1) = L(m), if there is one up to n.
     pub fn rounds(&self) -> Option<usize> {
-        (1..self.n.saturating_add(1))
-            .find(|m| self.still(*m))
-            .map(|m| m as usize)
+        (1..=self.n).find(|m| self.still(*m)).map(|m| m as usize)
     }
 
     // Does a chain lead back to its start?

@@ -24,7 +24,7 @@ pub fn unwritten<K: Label>(heap: Global) -> Result<Vec<K>, AllocError> {
 // The label of every pair in its cell, and the cells behind them unwritten.
 fn check_table<K: Kind>(table: &[K], chains: &Chains<K>) -> Result<(), Fail> {
     let mut cells = table.iter();
-    // by number, since pairs are asked for so
+    // by number: that is how a pair is asked for
     for i in 0..chains.n() {
         for j in 0..chains.n() {
             check(cells.next() == Some(&label(chains.word(i, j))))?;
@@ -36,7 +36,7 @@ fn check_table<K: Kind>(table: &[K], chains: &Chains<K>) -> Result<(), Fail> {
 // The rows of a table, each as long as there are packages.
 fn check_rows<K: Kind>(table: &[K], chains: &Chains<K>) -> Result<(), Fail> {
     let n = chains.n();
-    // by number, since a row is asked for so
+    // by number: that is how a row is asked for
     for p in 0..n {
         let mut cells = row(table, n, p)?.iter();
         for j in 0..n {
@@ -53,7 +53,7 @@ fn check_labels<K: Kind, C: Catalogue<Label = K>>(
     table: &mut [K],
     chains: &Chains<K>,
 ) -> Result<(), Fail> {
-    // by number, since pairs are asked for so
+    // by number: that is how a pair is asked for
     for i in 0..chains.n() {
         for j in 0..chains.n() {
             check(label_of(c, table, i, j)? == label(chains.word(i, j)))?;

@@ -58,7 +58,7 @@ impl<K: Kind> Scene<K> {
         Ok(ledger)
     }
 
-    // The reference over such a ledger.
+    // The reference beside such a ledger.
     fn reference(&self, most_held: usize) -> Result<Reference<u32>, AllocError> {
         let mut reference = Reference::new(self.heap, self.n, K::NO_WORD, PLACES, most_held);
         reference.run(self.first.as_slice())?;

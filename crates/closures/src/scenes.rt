@@ -48,7 +48,8 @@ fn in_labels<K: Label>(call: Call<u32>) -> Call<K> {
     }
 }
 
-// A `map` to labels of a kind that no argument names is not proved yet: hence the loop.
+// The calls with labels in place of words. A loop, since the borrow checker does not cover a `map`
+// whose result names a kind that no argument names.
 pub fn labelled<K: Label>(heap: Global, calls: &[Call<u32>]) -> Result<Vec<Call<K>>, AllocError> {
     let mut told = Vec::new(heap);
     for call in calls {

@@ -7,6 +7,7 @@ use cases::{Reference, blank, check, check_eq};
 use catalogue::{Blank, Call, Holding, Layer, Ledger, Make, run};
 use closing::row;
 use labels::{Licence, Minutes, Reach};
+use paths::Arc;
 use runs::close_both;
 use std::alloc::Global;
 use std::test::Fail;
@@ -14,21 +15,14 @@ use std::test::Fail;
 const NONE: u32 = 4294967295;
 
 // A pair of packages, and the word of its label.
-#[derive(Clone, Copy)]
-struct Labelled {
-    from: u32,
-    to: u32,
-    word: u32,
+fn pair(from: u32, to: u32, label: u32) -> Arc<u32> {
+    Arc { from, to, label }
 }
 
-fn pair(from: u32, to: u32, word: u32) -> Labelled {
-    Labelled { from, to, word }
-}
-
-fn check_pairs<K: Kind>(table: &[K], n: u32, pairs: &[Labelled]) -> Result<(), Fail> {
+fn check_pairs<K: Kind>(table: &[K], n: u32, pairs: &[Arc<u32>]) -> Result<(), Fail> {
     for pair in pairs {
         let cells = row(table, n, pair.from)?;
-        check(cells.get(pair.to as usize) == Some(&label(pair.word)))?;
+        check(cells.get(pair.to as usize) == Some(&label(pair.label)))?;
     }
     Ok(())
 }
@@ -39,7 +33,7 @@ fn check_case<K: Kind>(
     n: u32,
     calls: &[Call<u32>],
     rounds: usize,
-    pairs: &[Labelled],
+    pairs: &[Arc<u32>],
 ) -> Result<(), Fail> {
     let mut arcs = blank::<K>(heap, PLACES)?;
     let ledger = Ledger::make(Blank {
@@ -70,7 +64,7 @@ fn check_case<K: Kind>(
     let chains = Chains::<K>::new(heap, n, arcs.as_slice())?;
     check_eq(chains.rounds(), Some(rounds))?;
     for pair in pairs {
-        check_eq(chains.word(pair.from, pair.to), pair.word)?;
+        check_eq(chains.word(pair.from, pair.to), pair.label)?;
     }
     Ok(())
 }

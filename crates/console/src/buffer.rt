@@ -30,7 +30,7 @@ impl LineBuffer {
         }
     }
 
-    // There is room.
+    // There is room. Apart, so that a wrong byte is refused here.
     fn put(&mut self, byte: u8)
         requires { length (content self.old) < 65 }
         ensures { content self.new ≡ content self.old ++ (byte ∷ []) }

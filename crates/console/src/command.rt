@@ -1,4 +1,4 @@
-// What a line can ask for.
+// What a line can ask for. It holds no `Call`, since a line writes minutes as a number, which may be no label.
 #[derive(Clone, Copy, PartialEq, Eq, Debug)]
 pub enum Command {
     Size(u32),

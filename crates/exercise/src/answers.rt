@@ -2,7 +2,7 @@
 use catalogue::Refusal;
 use paths::Arc;
 
-#[derive(Clone, Copy)]
+#[derive(Clone, Copy, PartialEq, Eq, Debug)]
 pub struct Arguments<K> {
     pub from: u32,
     pub to: u32,
@@ -12,7 +12,7 @@ pub struct Arguments<K> {
 }
 
 // The answers to every question.
-#[derive(Clone, Copy)]
+#[derive(Clone, Copy, PartialEq, Eq, Debug)]
 pub struct Replies<K> {
     pub n: u32,
     pub stock_len: usize,
@@ -24,7 +24,7 @@ pub struct Replies<K> {
 }
 
 // The answers to one call of each sort, in the order in which they were made.
-#[derive(Clone, Copy)]
+#[derive(Clone, Copy, PartialEq, Eq, Debug)]
 pub struct Outcomes {
     pub admit: Result<(), Refusal>,
     pub hold: Result<(), Refusal>,
@@ -32,7 +32,7 @@ pub struct Outcomes {
     pub withdraw: Result<usize, Refusal>,
 }
 
-#[derive(Clone, Copy)]
+#[derive(Clone, Copy, PartialEq, Eq, Debug)]
 pub struct Answers<K> {
     pub replies: Replies<K>,
     pub outcomes: Outcomes,

@@ -1,4 +1,5 @@
-// Each make, and stacks of layers, from the making on.
+// Each make, and stacks of layers, from the making on. Each is `exercise_made` at its type, so that a
+// contract names the making.
 ghost use Rattle.std.specs.Prelude.{◌≡◌, length};
 ghost use Rattle.catalogue.specs.Makings.{ledger_of, sheet_of, turned_over, holding_over};
 ghost use Rattle.exercise.specs.Exercised.{FromFirst, FromMaking};

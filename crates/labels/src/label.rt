@@ -29,7 +29,7 @@ pub trait Label: Copy + PartialEq {
     fn from_word(word: u32) -> Option<Self>
         ensures { result ≡ named word };
 
-    // Are the two labels equal?
+    // Are the two labels equal? It is `==`, told in the algebra's words.
     final fn same(self, other: Self) -> bool
         ensures { result ≡ ops.same self other }
     {

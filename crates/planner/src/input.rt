@@ -35,7 +35,7 @@ impl Iterator for Bytes {
 }
 
 // Its lines. What stands after the last line feed is a line if it is not empty. No proof knows that
-// they end, so a loop over them takes a number of them.
+// they end, so a loop takes `usize::MAX` of them.
 #[derive(Drop)]
 pub struct Input {
     bytes: Bytes,

@@ -29,7 +29,7 @@ fn main(rt: HostRuntime) -> io::Result<()> {
             serve(&rt, &mut input, &mut catalogue)
         }
         // not for an n of 1 to 64
-        Err(refusal) => tell(&rt, Err(refusal)),
+        Err(refusal) => println!(rt; "{refusal}"),
     }
 }
 
@@ -38,7 +38,7 @@ fn first_size(rt: &HostRuntime, input: &mut Input) -> io::Result<Option<u32>> {
     for line in input.by_ref().take(usize::MAX) {
         match open_with(line.line()) {
             Ok(n) => return Ok(Some(n)),
-            Err(refusal) => tell(rt, Err(refusal))?,
+            Err(refusal) => println!(rt; "{refusal}")?,
         }
     }
     Ok(None)

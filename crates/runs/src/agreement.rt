@@ -1,4 +1,4 @@
-// Both closings of one catalogue.
+// Both closings of one catalogue. The tables stay apart, as in `by_rounds`.
 ghost use Rattle.std.specs.Prelude.{◌≡◌, length};
 ghost use Rattle.catalogue.specs.Refusals.{answer};
 ghost use Rattle.tables.specs.Closings.{rounds_answer, elimination_answer, closing_leaves, Agree};
@@ -7,7 +7,7 @@ use catalogue::{Catalogue, Refusal};
 use closing::{by_elimination, by_rounds};
 
 // What each closing answers.
-#[derive(Clone, Copy)]
+#[derive(Clone, Copy, PartialEq, Eq, Debug)]
 pub struct Closings {
     pub by_rounds: Result<usize, Refusal>,
     pub by_elimination: Result<(), Refusal>,

@@ -1,4 +1,4 @@
-// What a catalogue tells once a run is over.
+// What a catalogue tells once a run is over. The tables stay apart, as in `by_rounds`.
 ghost use Rattle.std.specs.Prelude.{◌≡◌, length};
 ghost use Rattle.catalogue.specs.Refusals.{answer};
 ghost use Rattle.catalogue.specs.Runs.{reckon};

@@ -1,4 +1,5 @@
-// Each make and a stack of four layers, from the making on.
+// Each make and a stack of four layers, from the making on. Each is `close_made` or `label_made` at
+// its type, so that a contract names the making. The tables stay apart, as in `by_rounds`.
 ghost use Rattle.std.specs.Prelude.{◌≡◌, length};
 ghost use Rattle.catalogue.specs.Refusals.{answer};
 ghost use Rattle.catalogue.specs.Makings.{ledger_of, sheet_of, turned_over, holding_over, first_meaning};

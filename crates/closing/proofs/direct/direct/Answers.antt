@@ -1,24 +1,9 @@
 use Rattle.std.proofs.Common.{◌+◌, ◌*◌, ap, ◌∙◌, arith}
-use Rattle.std.proofs.lemmas.Nat.{mul-add-lt}
 use Rattle.paths.specs.Chains.{L}
-use Rattle.tables.proofs.InForce.{answered_in, along_start, along_none}
+use Rattle.tables.proofs.InForce.{along_none}
 use Rattle.tables.proofs.Singles.{singles_more}
 use Rattle.closing.proofs.direct.direct.Goals as goal
 use Rattle.closing.proofs.direct.direct.Goals.{in-Some, in_default}
-
-pub loop-k-init : goal.loop-k-init
-loop-k-init g c =
-    let o = g.C.Label.Label.ops in
-    let m = g.C.Catalogue.meaning c.args.catalogue.now in
-    let n = m.n in
-    along_start m o n (λ arcs. L o arcs 1) c.clear.new.cells
-    (λ i j hi hj. c.clear.ensures (i * n + j) (omega (arith, mul-add-lt i n j n hi hj, c.requires.square)))
-
-pub place-requires : goal.place-requires
-place-requires g c =
-    let m = g.C.Catalogue.meaning c.args.catalogue.now in
-    let inside = answered_in m g.C.Label.Label.ops c.of-width.result.n c.loop-k.k c.in-Some.arc (g.met.C.Catalogue.sound c.args.catalogue.now) c.of-width.ensures c.in-Some.ensures in
-    record { row = inside.from_in; column = inside.to_in }
 
 pub loop-k-preserved : goal.loop-k-preserved
 loop-k-preserved g c =

@@ -13,7 +13,6 @@ invariant_of-result g c =
     let met = ap (sheet_check g.K.Label.named) c.in_ok-reading.ensures.same ∙ sym c.in_ok-reading.ensures.checks in
     let many = arcs_many g.K.Label.named g.K.Label.ops.none read.bytes.now met in
     let n = read.count in
-    let len = c.arcs.ensures.len in
     record { ok = record { count = n; stocked = omega arith; met = met } }
 
 pub returns : goal.returns
