@@ -1,12 +1,17 @@
 -- What a sheet means, and what the reading of one answers.
-use Rattle.std.specs.Prelude.{◌≡◌, ℕ, zero, suc, true, false, List, map, length, is_ok, Some, None, Ok, Err, Option, Result}
+use Rattle.std.specs.Prelude.{◌≡◌, ℕ, zero, suc, ◌+◌, ◌*◌, ◌<◌, true, false, List, map, length, slice_index_or, is_ok, Some, None, Ok, Err, Option, Result}
 use Rattle.std.specs.Option.{unwrap_or}
 use Rattle.paths.specs.declared.arc.Arc.{Arc}
 use Rattle.paths.specs.Arcs.{arc}
-use Rattle.sheets.specs.Sheets.{Entry, count_of, entries, sheet_check}
+use Rattle.sheets.specs.Sheets.{Entry, word_at, count_of, entries, sheet_check}
 use Rattle.sheets.specs.Layout.{Mark, States, stated_from}
 use Rattle.catalogue.specs.Refusals.{Refusal, number}
 use Rattle.catalogue.specs.Meanings.{Meaning}
+
+-- units that each hold the two fields of eight bytes, of the bytes from one on
+pub record Units (bytes : List ℕ) (from : ℕ) (units : List (List ℕ)) : Type 0 where
+  pub first : (k : ℕ) (d : List ℕ) → k < length units → word_at (slice_index_or units k d) 0 ≡ word_at bytes (from + 8 * k)
+  pub second : (k : ℕ) (d : List ℕ) → k < length units → word_at (slice_index_or units k d) 4 ≡ word_at bytes (from + 8 * k + 4)
 
 -- 0 where accepted, else the refusal's number
 abbrev pub verdict : {A : Type 0} → Result A Refusal → ℕ

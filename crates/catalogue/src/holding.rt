@@ -87,7 +87,7 @@ impl<C: Catalogue> Catalogue for Holding<C> {
         ensures leaves { held_over (packages self.new.own) (C.Catalogue.meaning self.new.below) ≡ hold_leaves (held_over (packages self.old.own) (C.Catalogue.meaning self.old.below)) p }
         ensures fills { packages self.new.own ≡ (if is_ok result && nat_lt 0 (32 - length (packages self.old.own)) then packages self.old.own ++ (p ∷ []) else packages self.old.own) }
     {
-        check_hold(&self.own, &self.below, p)?;
+        self.check_hold(p)?;
         if self.own.has_room() {
             self.own.add(p);
             return Ok(());
@@ -103,13 +103,15 @@ impl<C: Catalogue> Catalogue for Holding<C> {
     }
 }
 
-// The checks of `hold`, but for the holds left.
-fn check_hold<C: Catalogue>(own: &HeldList, below: &C, p: u32) -> Result<(), Refusal>
-    ensures { answer result ≡ (if outside (C.Catalogue.meaning below.now) p then Err 6 else (if (held_over (packages own.now) (C.Catalogue.meaning below.now)).held p then Err 10 else Ok tt)) }
-{
-    check_package(below.n(), p)?;
-    if own.has(p) || below.is_held(p) {
-        return Err(Refusal::AlreadyHeld);
+impl<C: Catalogue> Holding<C> {
+    // The checks of `hold`, but for the holds left.
+    fn check_hold(&self, p: u32) -> Result<(), Refusal>
+        ensures { answer result ≡ (if outside (C.Catalogue.meaning self.now.below) p then Err 6 else (if (held_over (packages self.now.own) (C.Catalogue.meaning self.now.below)).held p then Err 10 else Ok tt)) }
+    {
+        check_package(self.n(), p)?;
+        if self.is_held(p) {
+            return Err(Refusal::AlreadyHeld);
+        }
+        Ok(())
     }
-    Ok(())
 }

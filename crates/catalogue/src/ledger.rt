@@ -111,7 +111,8 @@ impl<'a, K: Label> Catalogue for Ledger<'a, K> {
     }
 }
 
-// The checks of `admit`, in their order.
+// The checks of `admit`, in their order. Over the ledger's parts, so that a wrong one is refused here: a
+// method needs answers.
 fn check_admit<K: Label>(n: u32, places: usize, from: u32, to: u32, label: K) -> Result<(), Refusal>
     ensures { (len : ℕ) (arcs : List (Arc K)) → length arcs - len ≡ places → answer result ≡ admit_answer K.Label.ops (ledger n len arcs) from to label }
 {

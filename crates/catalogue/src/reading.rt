@@ -1,7 +1,7 @@
 // The parts of the reading of a sheet.
 ghost use Rattle.std.specs.Prelude.{◌≡◌, ◌+◌, ◌-◌, ◌*◌, ◌/◌, ◌<◌, ◌≤◌, ℕ, List, map, length, slice_index_or, IfOk, nat_le};
 ghost use Rattle.sheets.specs.Sheets.{word_at, count_of, offset_of, size_of, due as due_at, entry, run_at, entries, first_unmet, run_test, end_test, pair_checks, entry_check, sheet_check};
-ghost use Rattle.catalogue.specs.SheetMeanings.{verdict, labelled};
+ghost use Rattle.catalogue.specs.SheetMeanings.{Units, verdict, labelled};
 
 use crate::limits::{MOST_ARCS, count_fits};
 use crate::refusal::Refusal;
@@ -107,8 +107,7 @@ impl<'a> Reading<'a> {
     // What follows the first field: the pairs, and then the arcs.
     fn units(&self) -> &'a [[u8; 8]]
         ensures len { length result.now ≡ (length self.now.bytes.now - 4) / 8 }
-        ensures first { (k : ℕ) (d : List ℕ) → k < length result.now → word_at (slice_index_or result.now k d) 0 ≡ word_at self.now.bytes.now (4 + 8 * k) }
-        ensures second { (k : ℕ) (d : List ℕ) → k < length result.now → word_at (slice_index_or result.now k d) 4 ≡ word_at self.now.bytes.now (4 + 8 * k + 4) }
+        ensures fields { Units self.now.bytes.now 4 result.now }
     {
         let (units, _) = self.bytes[4..].as_chunks::<8>();
         units
@@ -117,8 +116,7 @@ impl<'a> Reading<'a> {
     // The pairs of offset and length.
     fn pairs(&self) -> &'a [[u8; 8]]
         ensures len { length result.now ≡ self.now.n }
-        ensures offsets { (p : ℕ) (d : List ℕ) → p < self.now.n → word_at (slice_index_or result.now p d) 0 ≡ offset_of self.now.bytes.now p }
-        ensures sizes { (p : ℕ) (d : List ℕ) → p < self.now.n → word_at (slice_index_or result.now p d) 4 ≡ size_of self.now.bytes.now p }
+        ensures fields { Units self.now.bytes.now 4 result.now }
     {
         &self.units()[..self.n as usize]
     }
@@ -126,8 +124,7 @@ impl<'a> Reading<'a> {
     // The arcs of all runs.
     pub(crate) fn arcs(&self) -> &'a [[u8; 8]]
         ensures len { length result.now ≡ (length self.now.bytes.now - (4 + 8 * self.now.n)) / 8 }
-        ensures targets { (k : ℕ) (d : List ℕ) → k < length result.now → word_at (slice_index_or result.now k d) 0 ≡ word_at self.now.bytes.now (4 + 8 * self.now.n + 8 * k) }
-        ensures labels { (k : ℕ) (d : List ℕ) → k < length result.now → word_at (slice_index_or result.now k d) 4 ≡ word_at self.now.bytes.now (4 + 8 * self.now.n + 8 * k + 4) }
+        ensures fields { Units self.now.bytes.now (4 + 8 * self.now.n) result.now }
     {
         &self.units()[self.n as usize..]
     }

@@ -7,24 +7,6 @@ use Rattle.tables.proofs.Turns.{led, led_more}
 use Rattle.closing.proofs.rounds.spread.Goals as goal
 use Rattle.closing.proofs.rounds.spread.Goals.{in-Some, in_default}
 
-pub loop-k-init : goal.loop-k-init
-loop-k-init g c =
-    let o = g.C.Label.Label.ops in
-    let m = g.C.Catalogue.meaning c.args.catalogue.now in
-    let n = m.n in
-    let found = c.args.found.now in
-    along_start m o n (led o (cell o n found) (cell o n c.args.changed.now)) found
-    (λ i j hi hj. sym (none_join o g.met.C.Label.Label.laws (cell o n found i j)))
-
-pub follow-requires : goal.follow-requires
-follow-requires g c =
-    let m = g.C.Catalogue.meaning c.args.catalogue.now in
-    let n = c.of-width.result.n in
-    let is = c.of-width.ensures in
-    let inside = answered_in m g.C.Label.Label.ops n c.loop-k.k c.in-Some.arc (g.met.C.Catalogue.sound c.args.catalogue.now) is c.in-Some.ensures in
-    let area = sym (ap₂ ◌*◌ is is) in
-    record { from = inside.from_in; to = inside.to_in; changed = c.requires.changed ∙ area; found = c.loop-k.auto.found ∙ c.requires.found ∙ area }
-
 pub loop-k-preserved : goal.loop-k-preserved
 loop-k-preserved g c =
     let o = g.C.Label.Label.ops in

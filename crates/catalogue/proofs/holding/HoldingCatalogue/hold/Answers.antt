@@ -4,8 +4,8 @@ use Rattle.catalogue.specs.Holds.{packages, OwnOk, held_over}
 use Rattle.catalogue.proofs.Held.{may_hold, added_ok, hold_taken, hold_added}
 use Rattle.catalogue.proofs.holding.HoldingCatalogue.hold.Goals as goal
 
-pub invariant_of-self-then-has_room : goal.invariant_of-self-then-has_room
-invariant_of-self-then-has_room g c =
+pub invariant_of-self : goal.invariant_of-self
+invariant_of-self g c =
     let s = c.args.self.now in
     let m = g.C.Catalogue.meaning s.below in
     let xs = packages s.own in

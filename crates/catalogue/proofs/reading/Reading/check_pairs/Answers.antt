@@ -16,8 +16,8 @@ pub loop-pair-preserved : goal.loop-pair-preserved
 loop-pair-preserved c =
     let bytes = c.args.self.now.bytes.now in
     let p = c.loop-pair.pair-index in
-    let o : c.fields-offset.result.0 ≡ offset_of bytes p = c.fields-offset.ensures.first ∙ c.pairs-pair-items.ensures.offsets p _ (omega arith) in
-    let s : c.fields-offset.result.1 ≡ size_of bytes p = c.fields-offset.ensures.second ∙ c.pairs-pair-items.ensures.sizes p _ (omega arith) in
+    let o : c.fields-offset.result.0 ≡ offset_of bytes p = c.fields-offset.ensures.first ∙ c.pairs-pair-items.ensures.fields.first p _ (omega (arith, c.pairs-pair-items.ensures.len)) in
+    let s : c.fields-offset.result.1 ≡ size_of bytes p = c.fields-offset.ensures.second ∙ c.pairs-pair-items.ensures.fields.second p _ (omega (arith, c.pairs-pair-items.ensures.len)) in
     let test : run_test (offset_of bytes p) (size_of bytes p) (due bytes p) (length bytes) ≡ c.run_fits.result = cc in
     let ok = pair_ok bytes p (ap (check 3) (test ∙ c.if-not-run_fits.false)) in
     let inside = ok.inside in
@@ -29,8 +29,8 @@ pub returns-then-not-run_fits-clause-checks : goal.returns-then-not-run_fits-cla
 returns-then-not-run_fits-clause-checks c =
     let bytes = c.args.self.now.bytes.now in
     let p = c.loop-pair.pair-index in
-    let o : c.fields-offset.result.0 ≡ offset_of bytes p = c.fields-offset.ensures.first ∙ c.pairs-pair-items.ensures.offsets p _ (omega arith) in
-    let s : c.fields-offset.result.1 ≡ size_of bytes p = c.fields-offset.ensures.second ∙ c.pairs-pair-items.ensures.sizes p _ (omega arith) in
+    let o : c.fields-offset.result.0 ≡ offset_of bytes p = c.fields-offset.ensures.first ∙ c.pairs-pair-items.ensures.fields.first p _ (omega (arith, c.pairs-pair-items.ensures.len)) in
+    let s : c.fields-offset.result.1 ≡ size_of bytes p = c.fields-offset.ensures.second ∙ c.pairs-pair-items.ensures.fields.second p _ (omega (arith, c.pairs-pair-items.ensures.len)) in
     let test : run_test (offset_of bytes p) (size_of bytes p) (due bytes p) (length bytes) ≡ c.run_fits.result = cc in
     sym (c.loop-pair.invariant.2 ∙ pairs_stop bytes p c.args.self.now.n (omega arith) (ap (check 3) (test ∙ c.if-not-run_fits.true)))
 

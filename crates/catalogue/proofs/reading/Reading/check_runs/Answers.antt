@@ -12,8 +12,8 @@ slice_bounds-run-end g c =
     let bytes = c.args.self.now.bytes.now in
     let p = c.loop-p.p in
     let inside : offset_of bytes p + size_of bytes p ≤ length bytes = (pairs_ok bytes c.requires p (omega arith)).inside in
-    let o : c.fields-offset.result.0 ≡ offset_of bytes p = c.fields-offset.ensures.first ∙ c.pairs-pair-items.ensures.offsets p _ (omega arith) in
-    let s : c.fields-offset.result.1 ≡ size_of bytes p = c.fields-offset.ensures.second ∙ c.pairs-pair-items.ensures.sizes p _ (omega arith) in
+    let o : c.fields-offset.result.0 ≡ offset_of bytes p = c.fields-offset.ensures.first ∙ c.pairs-pair-items.ensures.fields.first p _ (omega (arith, c.pairs-pair-items.ensures.len)) in
+    let s : c.fields-offset.result.1 ≡ size_of bytes p = c.fields-offset.ensures.second ∙ c.pairs-pair-items.ensures.fields.second p _ (omega (arith, c.pairs-pair-items.ensures.len)) in
     search rules
 
 pub loop-p-preserved : goal.loop-p-preserved
@@ -22,8 +22,8 @@ loop-p-preserved g c =
     let p = c.loop-p.p in
     let chk = entry_check g.K.Label.named c.args.self.now.n in
     let inside = (pairs_ok bytes c.requires p (omega arith)).inside in
-    let o : c.fields-offset.result.0 ≡ offset_of bytes p = c.fields-offset.ensures.first ∙ c.pairs-pair-items.ensures.offsets p _ (omega arith) in
-    let s : c.fields-offset.result.1 ≡ size_of bytes p = c.fields-offset.ensures.second ∙ c.pairs-pair-items.ensures.sizes p _ (omega arith) in
+    let o : c.fields-offset.result.0 ≡ offset_of bytes p = c.fields-offset.ensures.first ∙ c.pairs-pair-items.ensures.fields.first p _ (omega (arith, c.pairs-pair-items.ensures.len)) in
+    let s : c.fields-offset.result.1 ≡ size_of bytes p = c.fields-offset.ensures.second ∙ c.pairs-pair-items.ensures.fields.second p _ (omega (arith, c.pairs-pair-items.ensures.len)) in
     let e = run_read bytes p c.fields-offset.result.0 c.fields-offset.result.1 o s (omega arith) in
     c.loop-p.invariant ∙ lists_more chk (run bytes) p c.args.self.now.n (omega arith) (ap (λ xs. first_unmet (map chk xs)) (sym e) ∙ sym c.in_ok-check_run.ensures)
 
@@ -33,8 +33,8 @@ returns-in_err-check_run g c =
     let p = c.loop-p.p in
     let chk = entry_check g.K.Label.named c.args.self.now.n in
     let inside = (pairs_ok bytes c.requires p (omega arith)).inside in
-    let o : c.fields-offset.result.0 ≡ offset_of bytes p = c.fields-offset.ensures.first ∙ c.pairs-pair-items.ensures.offsets p _ (omega arith) in
-    let s : c.fields-offset.result.1 ≡ size_of bytes p = c.fields-offset.ensures.second ∙ c.pairs-pair-items.ensures.sizes p _ (omega arith) in
+    let o : c.fields-offset.result.0 ≡ offset_of bytes p = c.fields-offset.ensures.first ∙ c.pairs-pair-items.ensures.fields.first p _ (omega (arith, c.pairs-pair-items.ensures.len)) in
+    let s : c.fields-offset.result.1 ≡ size_of bytes p = c.fields-offset.ensures.second ∙ c.pairs-pair-items.ensures.fields.second p _ (omega (arith, c.pairs-pair-items.ensures.len)) in
     let e = run_read bytes p c.fields-offset.result.0 c.fields-offset.result.1 o s (omega arith) in
     let why = c.in_err-check_run.field-0.0 in
     handed_on c.from_residual.result why c.from_residual.ensures.1

@@ -21,7 +21,7 @@ split c =
     let i = c.partition_point-begun.result in
     let n : c.args.self.now.n ≡ count_of bytes = c.args.self.now.count in
     let all = c.pairs.ensures.len ∙ n in
-    let offsets : (p : ℕ) (d : List ℕ) → p < count_of bytes → word_at (get_or pairs p d) 0 ≡ offset_of bytes p = λ p d h. c.pairs.ensures.offsets p d (omega arith) in
+    let offsets : (p : ℕ) (d : List ℕ) → p < count_of bytes → word_at (get_or pairs p d) 0 ≡ offset_of bytes p = λ p d h. c.pairs.ensures.fields.first p d (omega (arith, all)) in
     let point = IsPartitionPoint-from_clause (λ u. leb (word_at u 0) at) pairs i c.partition_point-begun.ensures.partitioned (parted bytes pairs at all offsets c.requires.met) (λ a r q k. search rules) in
     record { all = all; offsets = offsets; point = point; some = begun_some bytes pairs at all offsets i point (omega (arith, c.args.self.now.some)) c.requires.begun }
 

@@ -11,6 +11,8 @@ returns c =
     let cut : us ≡ first_chunks 8 (length us) (drop 4 bytes) = c.as_chunks.ensures.front ∙ ap₂ (first_chunks 8) (sym c.as_chunks.ensures.front_len) (take_rest bytes 4) in
     record {
       len = search rules;
-      first = λ k d h. unit_word bytes 4 us cut k 0 (4 + 8 * k) d h (omega arith) (omega arith);
-      second = λ k d h. unit_word bytes 4 us cut k 4 (4 + 8 * k + 4) d h (omega arith) (omega arith);
+      fields = record {
+        first = λ k d h. unit_word bytes 4 us cut k 0 (4 + 8 * k) d h (omega arith) (omega arith);
+        second = λ k d h. unit_word bytes 4 us cut k 4 (4 + 8 * k + 4) d h (omega arith) (omega arith);
+      };
     }

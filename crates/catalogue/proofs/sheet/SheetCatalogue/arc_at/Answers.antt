@@ -46,8 +46,8 @@ returns g c =
     let inside : k < length c.arcs.result.now = ltb-true _ _ (sym c.in_ok-arc.ensures.lookup.0) in
     let many = arcs_many g.K.Label.named g.K.Label.ops.none bytes s.ok.met in
     let len = c.arcs.ensures.len in
-    let to : word_at c.in_ok-arc.arc.now 0 ≡ word_at bytes at = ap (λ u. word_at u 0) c.in_ok-arc.ensures.lookup.1 ∙ c.arcs.ensures.targets k _ inside ∙ ap (word_at bytes) (sym c.place_of.ensures) in
-    let word : word_at c.in_ok-arc.arc.now 4 ≡ word_at bytes (at + 4) = ap (λ u. word_at u 4) c.in_ok-arc.ensures.lookup.1 ∙ c.arcs.ensures.labels k _ inside ∙ ap (λ i. word_at bytes (i + 4)) (sym c.place_of.ensures) in
+    let to : word_at c.in_ok-arc.arc.now 0 ≡ word_at bytes at = ap (λ u. word_at u 0) c.in_ok-arc.ensures.lookup.1 ∙ c.arcs.ensures.fields.first k _ inside ∙ ap (word_at bytes) (sym c.place_of.ensures) in
+    let word : word_at c.in_ok-arc.arc.now 4 ≡ word_at bytes (at + 4) = ap (λ u. word_at u 4) c.in_ok-arc.ensures.lookup.1 ∙ c.arcs.ensures.fields.second k _ inside ∙ ap (λ i. word_at bytes (i + 4)) (sym c.place_of.ensures) in
     let from = c.source-from.ensures in
     c.arc_in.ensures
     ∙ ap₂ (λ t w. labelled c.source-from.result t (g.K.Label.named w)) to word
