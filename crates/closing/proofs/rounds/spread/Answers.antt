@@ -1,8 +1,7 @@
-use Rattle.std.proofs.Common.{◌*◌, sym, ap, ◌∙◌, ap₂, arith}
+use Rattle.std.proofs.Common.{ap, ◌∙◌, arith}
 use Rattle.paths.specs.Tables.{cell}
-use Rattle.paths.proofs.Joins.{none_join}
 use Rattle.tables.specs.Tables.{row, put_row, relaxed}
-use Rattle.tables.proofs.InForce.{answered_in, along_start, along_none}
+use Rattle.tables.proofs.InForce.{along_none}
 use Rattle.tables.proofs.Turns.{led, led_more}
 use Rattle.closing.proofs.rounds.spread.Goals as goal
 use Rattle.closing.proofs.rounds.spread.Goals.{in-Some, in_default}
