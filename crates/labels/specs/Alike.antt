@@ -1,7 +1,7 @@
 -- Labels with equal numbers are equal, and the words that name labels.
 use Rattle.std.specs.Prelude.{◌≡◌, ℕ, ◌^◌, ◌<◌, min, Bool, true, false, cond, Some, None, nat_le, refl}
 use Rattle.std.specs.Bool.{then_some}
-use Rattle.std.proofs.Common.{ap, sym, subst, arith, ltb-true, leb-true, leb-false}
+use Rattle.std.proofs.Common.{ap, sym, ◌∙◌, subst, arith, ltb-true, leb-true, leb-false}
 use mathlib.Core.HLevel.{is_prop→PathP}
 use Rattle.std.proofs.Math.Bridge.{le_prop}
 use Rattle.labels.specs.Kinds.{names_itself, minutes_named, minutes_of, licence_named, mask_of, sum_or_none}
@@ -20,6 +20,10 @@ sum_is_min n = go (nat_le n 4294967294) refl
     go : (b : Bool) → nat_le n 4294967294 ≡ b → cond b n 4294967295 ≡ min n 4294967295
     go true t = omega (arith, leb-true n 4294967294 t)
     go false t = omega (arith, leb-false n 4294967294 t)
+
+-- a time is the one that its number names
+pub minutes_is : (m : Minutes) → m ≡ minutes_of m.value
+minutes_is m = minutes_same (sym (sum_is_min m.value ∙ omega (arith, m.fits)))
 
 pub minutes_read : (w : ℕ) (m : Minutes) → true ≡ names_itself w → m.value ≡ w → Some m ≡ minutes_named w
 minutes_read w m t e =

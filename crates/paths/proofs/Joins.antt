@@ -22,10 +22,6 @@ module _ {K : Type 0} (o : Ops K) (laws : Laws o) where
     over_cong f g [] h = refl
     over_cong f g (x ∷ xs) h = ap₂ o.join (h x (inl refl)) (over_cong f g xs (λ y m. h y (inr m)))
 
-    pub over_none : (f : A → K) (xs : List A) → ((x : A) → f x ≡ o.none) → join_over o f xs ≡ o.none
-    over_none f [] h = refl
-    over_none f (x ∷ xs) h = ap₂ o.join (h x) (over_none f xs h) ∙ laws.join_none o.none
-
     pub over_join : (f g : A → K) (xs : List A) → join_over o (λ x. o.join (f x) (g x)) xs ≡ o.join (join_over o f xs) (join_over o g xs)
     over_join f g [] = sym (laws.join_none o.none)
     over_join f g (x ∷ xs) = ap (o.join (o.join (f x) (g x))) (over_join f g xs) ∙ swap (f x) (g x) (join_over o f xs) (join_over o g xs)
@@ -46,7 +42,3 @@ module _ {K : Type 0} (o : Ops K) (laws : Laws o) where
     pub over_flat : (f : B → K) (g : A → List B) (xs : List A) → join_over o f (flat g xs) ≡ join_over o (λ x. join_over o f (g x)) xs
     over_flat f g [] = refl
     over_flat f g (x ∷ xs) = over_append f (g x) (flat g xs) ∙ ap (o.join (join_over o f (g x))) (over_flat f g xs)
-
-    pub over_swap : (f : A → B → K) (xs : List A) (ys : List B) → join_over o (λ x. join_over o (f x) ys) xs ≡ join_over o (λ y. join_over o (λ x. f x y) xs) ys
-    over_swap f [] ys = sym (over_none (λ y. o.none) ys (λ y. refl))
-    over_swap f (x ∷ xs) ys = ap (o.join (join_over o (f x) ys)) (over_swap f xs ys) ∙ sym (over_join (f x) (λ y. join_over o (λ z. f z y) xs) ys)

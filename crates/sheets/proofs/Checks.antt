@@ -1,5 +1,5 @@
 -- The first check not met.
-use Rattle.std.proofs.Common.{◌≡◌, ℕ, zero, suc, ◌+◌, ◌-◌, ◌<◌, ◌≤◌, Bool, true, false, List, [], ◌∷◌, ◌++◌, map, sym, refl, ap, ◌∙◌, add-zero, arith}
+use Rattle.std.proofs.Common.{◌≡◌, ℕ, zero, suc, ◌+◌, ◌-◌, ◌<◌, Bool, true, false, List, [], ◌∷◌, ◌++◌, map, sym, refl, ap, ◌∙◌, add-zero, arith}
 use Rattle.std.specs.List.{range_with_len, flat_map}
 use Rattle.std.proofs.lemmas.List.{map-append}
 use Rattle.sheets.specs.Sheets.{first_unmet, check}
@@ -24,11 +24,6 @@ unmet_stop (suc x ∷ xs) ys k e = e
 pub counting_more : (p n : ℕ) → p < n → range_with_len p (n - p) ≡ p ∷ range_with_len (p + 1) (n - (p + 1))
 counting_more p n h =
     let e : n - p ≡ suc (n - (p + 1)) = omega arith in
-    ap (range_with_len p) e
-
-pub counting_all : (p n : ℕ) → n ≤ p → range_with_len p (n - p) ≡ []
-counting_all p n h =
-    let e : n - p ≡ 0 = omega arith in
     ap (range_with_len p) e
 
 -- each of the checks is met

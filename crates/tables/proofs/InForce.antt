@@ -70,9 +70,6 @@ module _ {K : Type 0} (m : Meaning K) where
     along : (k : ℕ) (cells : List K) → Shows o n cells (T (first_arcs k)) → Along o n T k cells
     along k cells shows = record { so_far = shows; at_last = λ h. subst (λ arcs. Shows o n cells (T arcs)) (ap (filter (free_ends m)) (take_all k m.stock h)) shows }
 
-    pub along_start : (cells : List K) → Shows o n cells (T []) → Along o n T 0 cells
-    along_start cells shows = along 0 cells shows
-
     pub along_none : (k : ℕ) (cells after : List K) → Along o n T k cells → None ≡ arc_at m k → after ≡ cells → Along o n T (k + 1) after
     along_none k cells after old e same =
         along (k + 1) after (subst (λ arcs. Shows o n after (T arcs)) (sym (next k None e ∙ append-nil (first_arcs k))) (subst (λ xs. Shows o n xs (T (first_arcs k))) (sym same) old.so_far))

@@ -1,6 +1,5 @@
 -- What was found is joined to the cells one after the other.
 use Rattle.std.proofs.Common.{◌≡◌, ℕ, ◌+◌, ◌<◌, ◌≤◌, Bool, true, false, cond, not, ◌||◌, ◌≢◌, List, length, get_or, set, sym, refl, ap, ◌∙◌, ap₂, true≢false, arith, get_or-set_other, get_or-set_same, below_more}
-use mathlib.Core.Bool.{false≢true}
 use borrow.Author.Tests.{not-false}
 use Rattle.std.proofs.lemmas.Bool.{or_parts}
 use Rattle.std.proofs.lemmas.List.{get_or_default}
@@ -20,19 +19,6 @@ second_true true b e n = absurd (n refl)
 second_true false b e n = e
 
 module _ {K : Type 0} (o : Ops K) where
-  pub swept_none : (cells changed found : List K) → Swept o cells found cells changed found 0 false
-  swept_none cells changed found = record {
-    settled = record {
-      joined = λ v h. absurd (omega arith);
-      told = λ v h. absurd (omega arith);
-      clean = λ v h. absurd (omega arith);
-      still = λ e v h. absurd (omega arith);
-      stirred = λ e h. false≢true e;
-    };
-    cells_later = λ v h. refl;
-    found_later = λ v h. refl;
-  }
-
   module _ (laws : Laws o) (absorbs : Absorbs o) (exact : Exact o) where
     told_here : (r : Bool) (old way : K) → r ≡ not (o.same (o.join old way) old) → o.join old (cond r (o.join old way) o.none) ≡ o.join old way
     told_here true old way d = sym (laws.join_assoc old old way) ∙ ap (λ x. o.join x way) (under_refl o laws absorbs old)
