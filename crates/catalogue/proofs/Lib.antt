@@ -8,3 +8,4 @@ pub mod Held
 pub mod Reckoning
 pub mod Numbers
 pub mod SheetArcs
+pub mod PairWords

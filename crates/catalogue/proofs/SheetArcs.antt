@@ -1,7 +1,5 @@
 -- What a sheet that meets its checks means.
 use Rattle.std.proofs.Common.{◌≡◌, ℕ, zero, suc, ◌+◌, ◌-◌, ◌*◌, ◌/◌, ◌<◌, ◌≤◌, true, false, List, map, length, get_or, is_ok, Some, None, Ok, Option, Result, unwrap_or, sym, refl, ap, ◌∙◌, arith}
-use lib.ListN.{length-map}
-use Rattle.std.proofs.lemmas.Option.{slice_get_past}
 use Rattle.std.proofs.lemmas.Bool.{false≢true}
 use Rattle.paths.specs.Arcs.{arc}
 use Rattle.sheets.specs.Sheets.{word_at, offset_of, count_of, entries, sheet_check}
@@ -34,9 +32,6 @@ module _ {L : Type 0} (named : ℕ → Option L) (none : L) (bytes : List ℕ) w
         go : (x : Option L) → named (word_at bytes (at + 4)) ≡ x → labelled q (word_at bytes at) x ≡ Some (arc q (word_at bytes at) (unwrap_or x none))
         go None e = absurd (unnamed_not named bytes met k q at inside here q<n begun last (word_at bytes (at + 4)) refl (sym e))
         go (Some l) e = refl
-
-    pub arc_past : (k : ℕ) → length (entries bytes) ≤ k → None ≡ arc_at (sheet named none bytes) k
-    arc_past k h = sym (ap (unheld (sheet named none bytes)) (slice_get_past (map (arc_of named none) (entries bytes)) k (simp length-map h)))
 
   read_zero : (v : ℕ) → is_ok (by_number v (sheet named none bytes)) ≡ true → v ≡ 0
   read_zero zero h = refl

@@ -1,7 +1,7 @@
 -- A ledger's arcs after a withdrawal.
-use Rattle.std.proofs.Common.{◌≡◌, ℕ, ◌+◌, ◌-◌, ◌<◌, ◌≤◌, Bool, true, false, cond, not, List, [], ◌∷◌, length, take, is_ok, Ok, Err, filter, sym, refl, ap, ◌∙◌, subst, arith, length-take}
+use Rattle.std.proofs.Common.{◌≡◌, ℕ, ◌+◌, ◌-◌, ◌≤◌, Bool, true, false, leb, cond, not, List, [], ◌∷◌, length, take, is_ok, Ok, Err, filter, sym, refl, ap, ◌∙◌, subst, arith, length-take}
 use Rattle.std.proofs.lemmas.List.Filters.{FiltersInPlace, length-filter_both}
-use Rattle.std.proofs.lemmas.Bool.{lt-leb, ne_eqb, eq-eqb}
+use Rattle.std.proofs.lemmas.Bool.{ne_eqb, eq-eqb}
 use Rattle.labels.specs.Algebra.{Ops}
 use Rattle.paths.specs.declared.arc.Arc.{Arc}
 use Rattle.paths.specs.Arcs.{between, elsewhere}
@@ -18,20 +18,16 @@ none_taken p (x ∷ xs) e =
       | false ↦ λ h. ap (λ r. x ∷ r) (none_taken p xs h)
     ]) e
 
-module _ {L : Type 0} (m : Meaning L) (f t : ℕ) (open' : m.sealed ≡ false) (fn : f < m.n) (tn : t < m.n) where
+module _ {L : Type 0} (m : Meaning L) (f t : ℕ) (open' : m.sealed ≡ false) (fn : leb m.n f ≡ false) (tn : leb m.n t ≡ false) where
   withdraw_refuses : matching m f t ≡ 0 → withdraw_answer m f t ≡ Err 9
   withdraw_refuses none =
-      let e2 = lt-leb m.n f fn in
-      let e3 = lt-leb m.n t tn in
       let e4 = eq-eqb (matching m f t) 0 none in
-      simp (open', e2, e3, e4)
+      simp (open', fn, tn, e4)
 
   withdraw_accepts : (matching m f t ≡ 0 → ⊥) → withdraw_answer m f t ≡ Ok (matching m f t)
   withdraw_accepts some =
-      let e2 = lt-leb m.n f fn in
-      let e3 = lt-leb m.n t tn in
       let e4 = ne_eqb (matching m f t) 0 some in
-      simp (open', e2, e3, e4)
+      simp (open', fn, tn, e4)
 
 module _ {L : Type 0} (f t : ℕ) (xs ys : List (Arc L)) where
   module _ (next i len : ℕ) (inv : FiltersInPlace (elsewhere f t) xs ys next i) (end : i ≡ len) where
@@ -53,7 +49,7 @@ module _ {L : Type 0} (f t : ℕ) (xs ys : List (Arc L)) where
         omega arith
 
   -- r arcs were taken of the first len
-  module _ (o : Ops L) (n len r : ℕ) (ok : LedgerOk o n len xs) (fn : f < n) (tn : t < n) (few : r ≤ len) (front : take (len - r) ys ≡ filter (elsewhere f t) (take len xs)) (count : r ≡ length (filter (between f t) (take len xs))) (long : length ys ≡ length xs) where
+  module _ (o : Ops L) (n len r : ℕ) (ok : LedgerOk o n len xs) (fn : leb n f ≡ false) (tn : leb n t ≡ false) (few : r ≤ len) (front : take (len - r) ys ≡ filter (elsewhere f t) (take len xs)) (count : r ≡ length (filter (between f t) (take len xs))) (long : length ys ≡ length xs) where
     shrunk : ledger n (len - r) ys ≡ withdrawn (ledger n len xs) f t
     shrunk =
         let fill = ok.filled in

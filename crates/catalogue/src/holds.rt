@@ -1,7 +1,7 @@
 // A layer's own list of held packages, in the layer itself: want of memory refuses no hold.
 ghost use Rattle.std.specs.Prelude.{◌≡◌, ◌-◌, ◌<◌, ◌≤◌, not, [], ◌∷◌, ◌++◌, length, ◌==◌, nat_lt};
 ghost use Rattle.catalogue.specs.Lists.{within, without};
-ghost use Rattle.catalogue.specs.Holds.{packages};
+ghost use Rattle.arrayvec.specs.ArrayVec.{array_vec_len};
 
 use arrayvec::ArrayVec;
 
@@ -11,9 +11,13 @@ const MOST_HELD: usize = 32;
 #[derive(Drop)]
 pub struct HeldList {
     list: ArrayVec<u32, MOST_HELD>,
+    ghost few: { array_vec_len list ≤ 32 },
 }
 
 impl HeldList {
+    // Not at the head of the file, since the struct's ghost field reads what stands there.
+    ghost use Rattle.catalogue.specs.Holds.{packages};
+
     pub(crate) fn new() -> HeldList
         ensures { packages result ≡ [] }
     {
@@ -23,10 +27,9 @@ impl HeldList {
     }
 
     pub(crate) fn has_room(&self) -> bool
-        ensures few { length (packages self.now) ≤ 32 }
-        ensures room { result ≡ nat_lt 0 (32 - length (packages self.now)) }
+        ensures { result ≡ nat_lt 0 (32 - length (packages self.now)) }
     {
-        self.list.len() < MOST_HELD
+        !self.list.is_full()
     }
 
     pub(crate) fn has(&self, p: u32) -> bool
@@ -44,7 +47,6 @@ impl HeldList {
 
     // Takes `p` out of the list, and answers whether it was there.
     pub(crate) fn remove(&mut self, p: u32) -> bool
-        ensures few { length (packages self.old) ≤ 32 }
         ensures found { result ≡ within (packages self.old) p }
         ensures rest { packages self.new ≡ without p (packages self.old) }
     {

@@ -38,8 +38,8 @@ pub trait Catalogue {
     fn arc_at(&self, k: usize) -> Option<Arc<Self::Label>>
         ensures { result ≡ arc_at (meaning self.now) k };
 
-    // Puts an arc at the stock's end. Its ends and its label come apart: a rule gives the call these
-    // three arguments, and others the order of their checks.
+    // Puts an arc at the stock's end. Its ends and its label come apart: a rule gives the call
+    // these three arguments, and others the order of their checks.
     fn admit(&mut self, from: u32, to: u32, label: Self::Label) -> Result<(), Refusal>
         ensures answers { answer result ≡ admit_answer Self.Label.Label.ops (meaning self.old) from to label }
         ensures leaves { meaning self.new ≡ admit_leaves Self.Label.Label.ops (meaning self.old) from to label };

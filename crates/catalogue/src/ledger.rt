@@ -111,8 +111,8 @@ impl<'a, K: Label> Catalogue for Ledger<'a, K> {
     }
 }
 
-// The checks of `admit`, in their order. Over the ledger's parts, so that a wrong one is refused here: a
-// method needs answers.
+// The checks of `admit`, in their order. Over the ledger's parts, so that a wrong one is refused
+// here: a method needs answers.
 fn check_admit<K: Label>(n: u32, places: usize, from: u32, to: u32, label: K) -> Result<(), Refusal>
     ensures { (len : ℕ) (arcs : List (Arc K)) → length arcs - len ≡ places → answer result ≡ admit_answer K.Label.ops (ledger n len arcs) from to label }
 {
@@ -131,9 +131,8 @@ fn check_admit<K: Label>(n: u32, places: usize, from: u32, to: u32, label: K) ->
     Ok(())
 }
 
-// Over the records alone, since a method would owe the ledger's own facts at its end.
-
-// Puts an arc after the first `len`, and answers how many there are then.
+// Puts an arc after the first `len`, and answers how many there are then. Over the records alone,
+// as `drop_between`: a method would owe the ledger's own facts at its end.
 fn append<K: Label>(arcs: &mut [Arc<K>], len: usize, arc: Arc<K>) -> usize
     requires { len < length arcs.old }
     ensures count { result ≡ len + 1 }

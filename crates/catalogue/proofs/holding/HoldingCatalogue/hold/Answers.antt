@@ -20,10 +20,10 @@ returns-then-has_room g c =
     let xs = packages s.own in
     let p = c.args.p in
     let may = may_hold m xs p c.in_ok-check_hold.ensures in
-    let room : length xs < 32 = omega (arith, ltb-true 0 (32 - length xs) (sym c.if-has_room.ensures.room)) in
+    let room : length xs < 32 = omega (arith, ltb-true 0 (32 - length xs) (sym c.if-has_room.ensures)) in
     let e = c.add.ensures in
     record {
       answers = sym (hold_taken m xs p s.list may.inside may.out may.unheld room);
       leaves = ap (λ ys. held_over ys m) e ∙ hold_added m xs p s.list may.inside may.out may.unheld room;
-      fills = e ∙ ap (λ b. cond b (xs ++ (p ∷ [])) xs) c.if-has_room.ensures.room;
+      fills = e ∙ ap (λ b. cond b (xs ++ (p ∷ [])) xs) c.if-has_room.ensures;
     }

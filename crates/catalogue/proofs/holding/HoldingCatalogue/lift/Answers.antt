@@ -32,7 +32,7 @@ returns-then-remove g c =
     let e = c.remove.ensures.rest in
     record {
       answers = sym (lift_taken m xs p s.list there);
-      leaves = ap (λ ys. held_over ys m) e ∙ lift_out m xs p s.list there c.remove.ensures.few;
+      leaves = ap (λ ys. held_over ys m) e ∙ lift_out m xs p s.list there s.own.few;
     }
 
 pub returns : goal.returns

@@ -1,4 +1,4 @@
-use Rattle.std.proofs.Common.{◌≡◌, ltb, length, ap, ◌∙◌, ap₂, arith, rules}
+use Rattle.std.proofs.Common.{◌≡◌, ltb, length, ap, ◌∙◌, ap₂, rules}
 use Rattle.arrayvec.proofs.ArrayVecLemmas.{filter-from_retain}
 use Rattle.catalogue.specs.Lists.{without}
 use Rattle.catalogue.proofs.Listed.{shorter_without}
@@ -11,7 +11,6 @@ returns c =
     let rest : c.retain.new.self.items ≡ without p xs = filter-from_retain _ _ _ (λ x b f' y called. search rules) _ _ c.retain.ensures.filtered in
     let before = c.len-before.ensures in
     record {
-      few = omega (arith, before.value, before.fits);
       found = ap₂ ltb (c.len.ensures.value ∙ ap length rest) before.value ∙ shorter_without p xs;
       rest = rest;
     }

@@ -1,21 +1,11 @@
-use Rattle.std.proofs.Common.{◌≡◌, ◌+◌, ◌<◌, ◌≤◌, length, sym, ap, ap₂, ◌∙◌, arith}
-use Rattle.std.proofs.lemmas.Bool.{ltb-true, ltb-false}
+use Rattle.std.proofs.Common.{◌≡◌, ◌+◌, ◌<◌, length, sym, ap, ap₂, ◌∙◌, arith}
+use Rattle.std.proofs.lemmas.Bool.{ltb-true}
 use Rattle.sheets.specs.Sheets.{word_at, count_of}
 use Rattle.sheets.proofs.Pairs.{pairs_ok}
 use Rattle.sheets.proofs.Passes.{all_met}
 use Rattle.catalogue.specs.SheetMeanings.{labelled}
-use Rattle.catalogue.proofs.SheetArcs.{arcs_many, arc_found, arc_past}
+use Rattle.catalogue.proofs.SheetArcs.{arcs_many, arc_found}
 use Rattle.catalogue.proofs.sheet.SheetCatalogue.arc_at.Goals as goal
-
-pub returns-in_err-arc : goal.returns-in_err-arc
-returns-in_err-arc g c =
-    let s = c.args.self.now in
-    let bytes = c.args.self.now.reading.bytes.now in
-    let past : length c.arcs.result.now ≤ c.args.k = ltb-false _ _ (sym c.in_err-arc.ensures.lookup.0) in
-    let many = arcs_many g.K.Label.named g.K.Label.ops.none bytes s.ok.met in
-    let n = s.ok.count in
-    let len = c.arcs.ensures.len in
-    c.from_residual.ensures ∙ arc_past g.K.Label.named g.K.Label.ops.none bytes s.ok.met c.args.k (omega arith)
 
 pub place_of-requires : goal.place_of-requires
 place_of-requires g c =
