@@ -5,7 +5,7 @@ ghost use Rattle.paths.specs.Tables.{Shows};
 ghost use Rattle.tables.specs.Tables.{Square};
 ghost use Rattle.catalogue.specs.Meanings.{in_force};
 
-use crate::places::Width;
+use crate::places::Side;
 use catalogue::Catalogue;
 use labels::Label;
 
@@ -13,10 +13,7 @@ use labels::Label;
 pub(crate) fn clear<K: Label>(cells: &mut [K])
     ensures { (u : ℕ) → u < length cells.old → slice_index_or cells.new u K.ops.none ≡ K.ops.none }
 {
-    // `fill` asks that cloning a label cannot fail, which no law of kinds says.
-    for cell in cells.iter_mut() {
-        *cell = K::NONE;
-    }
+    cells.fill_with(|| K::NONE);
 }
 
 // Joins a label to a cell.
@@ -32,13 +29,13 @@ pub(crate) fn direct<C: Catalogue>(catalogue: &C, cells: &mut [C::Label])
     requires square { Square (C.Catalogue.meaning catalogue.now).n cells.old }
     ensures { Shows C.Label.Label.ops (C.Catalogue.meaning catalogue.now).n cells.new (L C.Label.Label.ops (in_force (C.Catalogue.meaning catalogue.now)) 1) }
 {
-    let width = Width::of(catalogue);
+    let side = Side::of(catalogue);
     clear(cells);
     let places = catalogue.stock_len();
     // By place: the check refuses what it writes for a loop over `filter_map` of `arc_at`.
     for k in 0..places {
         if let Some(arc) = catalogue.arc_at(k) {
-            join_to(cells, width.place(arc.from, arc.to), arc.label);
+            join_to(cells, side.place(arc.from, arc.to), arc.label);
         }
     }
 }

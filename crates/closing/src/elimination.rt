@@ -1,4 +1,4 @@
-// Closing by elimination: package by package, every pair is joined with its way through the package.
+// Closing by elimination: package by package, every pair is joined with its way through it.
 ghost use Rattle.std.specs.Prelude.{◌≡◌, ◌*◌, ◌<◌, ◌≤◌, true, length, take, is_ok, slice_index_or};
 ghost use Rattle.paths.specs.Tables.{cell, Shows, through, eliminated};
 ghost use Rattle.paths.specs.Closures.{Closure};
@@ -8,7 +8,7 @@ ghost use Rattle.tables.specs.Tables.{Square, Reaches};
 ghost use Rattle.tables.specs.Closings.{labels, elimination_answer, closing_leaves};
 
 use crate::direct::direct;
-use crate::places::Width;
+use crate::places::Side;
 use crate::relax::{leads, relax_row};
 use catalogue::{Catalogue, Refusal};
 use labels::Label;
@@ -27,7 +27,7 @@ fn close<C: Catalogue>(catalogue: &C, table: &mut [C::Label]) -> Result<(), Refu
     ensures answers { answer result ≡ elimination_answer C.Label.Label.ops (C.Catalogue.meaning catalogue.now) (length table.old) }
     ensures leaves { table.new ≡ closing_leaves C.Label.Label.ops (C.Catalogue.meaning catalogue.now) (answer result) table.old }
 {
-    let cells = Width::of(catalogue).area();
+    let cells = Side::of(catalogue).area();
     if table.len() < cells {
         return Err(Refusal::ShortBuffer);
     }
@@ -41,32 +41,34 @@ fn fill<C: Catalogue>(catalogue: &C, cells: &mut [C::Label])
     ensures { cells.new ≡ labels C.Label.Label.ops (C.Catalogue.meaning catalogue.now) }
 {
     direct(catalogue, cells);
-    eliminate(cells, Width::of(catalogue));
+    eliminate(cells, Side::of(catalogue));
 }
 
 // Package by package, every pair is joined with its way through the package.
-fn eliminate<K: Label>(cells: &mut [K], width: Width)
-    requires square { Square width.n cells.old }
-    ensures { Shows K.ops width.n cells.new (eliminated K.ops (cell K.ops width.n cells.old) width.n) }
+fn eliminate<K: Label>(cells: &mut [K], side: Side)
+    requires square { Square side.n cells.old }
+    ensures { Shows K.ops side.n cells.new (eliminated K.ops (cell K.ops side.n cells.old) side.n) }
 {
-    for k in 0..width.n {
-        pass_through(cells, width, k);
+    for k in 0..side.n {
+        pass_through(cells, side, k);
     }
 }
 
-// Every pair is joined with its way through package `k`: row `k` stays, as no way is better than a part of it.
-fn pass_through<K: Label>(cells: &mut [K], width: Width, k: usize)
-    requires square { Square width.n cells.old }
-    requires over { k < width.n }
-    ensures { Shows K.ops width.n cells.new (through K.ops k (cell K.ops width.n cells.old)) }
+// Every pair is joined with its way through package `k`: row `k` stays, as no way is better than
+// a part of it.
+fn pass_through<K: Label>(cells: &mut [K], side: Side, k: usize)
+    requires square { Square side.n cells.old }
+    requires over { k < side.n }
+    ensures { Shows K.ops side.n cells.new (through K.ops k (cell K.ops side.n cells.old)) }
 {
-    let (before, rest) = cells.split_at_mut(k * width.n);
-    let (via, after) = rest.split_at_mut(width.n);
+    let (before, rest) = cells.split_at_mut(k * side.n);
+    let (via, after) = rest.split_at_mut(side.n);
     relax_rows(before, via, k);
     relax_rows(after, via, k);
 }
 
 // Every pair of the rows is joined with its way through package `k`, whose row is `via`.
+#[tactic(auto, using(tables::proofs::Areas::row_whole))]
 fn relax_rows<K: Label>(rows: &mut [K], via: &[K], k: usize)
     requires over { k < length via.now }
     ensures { Reaches K.ops (length via.now) k (λ j. slice_index_or via.now j K.ops.none) rows.old rows.new }

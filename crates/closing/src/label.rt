@@ -35,6 +35,7 @@ fn either_outside(n: u32, from: u32, to: u32) -> bool
 }
 
 // The cell of a pair, read from the row of `from`.
+#[tactic(auto, using(tables::proofs::Reading::row_length))]
 fn cell<K: Label>(table: &[K], n: u32, from: u32, to: u32) -> Result<K, Refusal>
     requires { to < n }
     ensures { answer result ≡ on_ok (λ cells. slice_index_or cells to K.ops.none) (row_answer table.now n from) }

@@ -1,22 +1,22 @@
 // Where the rows and cells of a table of n × n labels lie.
-// Tables stay slices: each method of a struct of a slice and its width has to promise that it keeps both,
-// which takes as many clauses as the slice's length does.
+// Tables stay slices: each method of a struct of a slice and its side has to promise that it
+// keeps both, which takes as many clauses as the slice's length does.
 ghost use Rattle.std.specs.Prelude.{◌≡◌, ◌+◌, ◌*◌, ◌<◌, ◌≤◌};
 
 use catalogue::Catalogue;
 
-// The number of packages, which is how many rows and columns a table has.
+// The side of a square table: the number of packages, and so of rows and columns.
 #[derive(Clone, Copy)]
-pub(crate) struct Width {
+pub(crate) struct Side {
     pub(crate) n: usize,
     ghost few: { n ≤ 1024 },
 }
 
-impl Width {
-    pub(crate) fn of<C: Catalogue>(catalogue: &C) -> Width
+impl Side {
+    pub(crate) fn of<C: Catalogue>(catalogue: &C) -> Side
         ensures { result.n ≡ (C.Catalogue.meaning catalogue.now).n }
     {
-        Width {
+        Side {
             n: catalogue.n() as usize,
         }
     }

@@ -19,6 +19,7 @@ pub(crate) fn relax<K: Label>(cell: K, first: K, next: K) -> K
 }
 
 // Every cell of `row` is joined with `first` extended by the cell of `via` at the same column.
+#[tactic(auto, using(tables::proofs::RowWrites::relaxed_more))]
 pub(crate) fn relax_row<K: Label>(row: &mut [K], via: &[K], first: K)
     requires { length via.now ≡ length row.old }
     ensures { row.new ≡ relaxed K.ops first row.old via.now }

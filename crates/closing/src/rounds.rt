@@ -11,7 +11,7 @@ ghost use Rattle.tables.specs.Tables.{Square, row, put_row, relaxed};
 ghost use Rattle.tables.specs.Settling.{Settled};
 
 use crate::direct::{clear, direct};
-use crate::places::Width;
+use crate::places::Side;
 use crate::relax::relax_row;
 use catalogue::{Catalogue, Refusal};
 use labels::Label;
@@ -19,8 +19,8 @@ use paths::Arc;
 
 // Closes by rounds: from L(1), each round extends by one arc what changed in the round before.
 // Answers the rounds made; `changed` and `found` are spare tables.
-// Three slices, not a struct of them: nothing is known, after the call, of a part of a table or of a `Vec`'s slice
-// that is lent in a struct.
+// Three slices, not a struct of them: nothing is known, after the call, of a part of a table or of
+// a `Vec`'s slice that is lent in a struct.
 pub fn by_rounds<C: Catalogue>(
     catalogue: &C,
     table: &mut [C::Label],
@@ -36,8 +36,8 @@ pub fn by_rounds<C: Catalogue>(
     close(catalogue, table, changed, found)
 }
 
-// The closing itself, apart, so that a wrong step is refused here; `by_rounds` adds what is true of a
-// closed table.
+// The closing itself, apart, so that a wrong step is refused here; `by_rounds` adds what is true
+// of a closed table.
 fn close<C: Catalogue>(
     catalogue: &C,
     table: &mut [C::Label],
@@ -48,7 +48,7 @@ fn close<C: Catalogue>(
     ensures leaves { table.new ≡ closing_leaves C.Label.Label.ops (C.Catalogue.meaning catalogue.now) (answer result) table.old }
     ensures spares { is_ok (answer result) ≡ false → (changed.new ≡ changed.old) × (found.new ≡ found.old) }
 {
-    let cells = Width::of(catalogue).area();
+    let cells = Side::of(catalogue).area();
     if table.len() < cells || changed.len() < cells || found.len() < cells {
         return Err(Refusal::ShortBuffer);
     }
@@ -86,19 +86,20 @@ fn fill<C: Catalogue>(
     }
 }
 
-// Joins to the row of the arc's start what the arc leads to: its label extended by the row of its end.
-fn follow<K: Label>(arc: Arc<K>, width: Width, changed: &[K], found: &mut [K])
-    requires from { arc.from < width.n }
-    requires to { arc.to < width.n }
-    requires changed { Square width.n changed.now }
-    requires found { Square width.n found.old }
-    ensures { found.new ≡ put_row width.n found.old arc.from (relaxed K.ops arc.label (row width.n found.old arc.from) (row width.n changed.now arc.to)) }
+// Joins to the row of the arc's start what the arc leads to: its label extended by the row of its
+// end.
+fn follow<K: Label>(arc: Arc<K>, side: Side, changed: &[K], found: &mut [K])
+    requires from { arc.from < side.n }
+    requires to { arc.to < side.n }
+    requires changed { Square side.n changed.now }
+    requires found { Square side.n found.old }
+    ensures { found.new ≡ put_row side.n found.old arc.from (relaxed K.ops arc.label (row side.n found.old arc.from) (row side.n changed.now arc.to)) }
 {
-    let from = width.row_start(arc.from);
-    let to = width.row_start(arc.to);
+    let from = side.row_start(arc.from);
+    let to = side.row_start(arc.to);
     relax_row(
-        &mut found[from..from + width.n],
-        &changed[to..to + width.n],
+        &mut found[from..from + side.n],
+        &changed[to..to + side.n],
         arc.label,
     );
 }
@@ -109,17 +110,18 @@ fn spread<C: Catalogue>(catalogue: &C, changed: &[C::Label], found: &mut [C::Lab
     requires found { Square (C.Catalogue.meaning catalogue.now).n found.old }
     ensures { Shows C.Label.Label.ops (C.Catalogue.meaning catalogue.now).n found.new (λ i j. C.Label.Label.ops.join (cell C.Label.Label.ops (C.Catalogue.meaning catalogue.now).n found.old i j) (before C.Label.Label.ops (in_force (C.Catalogue.meaning catalogue.now)) (cell C.Label.Label.ops (C.Catalogue.meaning catalogue.now).n changed.now) i j)) }
 {
-    let width = Width::of(catalogue);
+    let side = Side::of(catalogue);
     let places = catalogue.stock_len();
     // By place, as in `direct`.
     for k in 0..places {
         if let Some(arc) = catalogue.arc_at(k) {
-            follow(arc, width, changed, found);
+            follow(arc, side, changed, found);
         }
     }
 }
 
-// Joins to a cell what was found, keeps the new label where it differs, and answers whether it does.
+// Joins to a cell what was found, keeps the new label where it differs, and answers whether it
+// does.
 fn settle_cell<K: Label>(cell: &mut K, changed: &mut K, found: &mut K) -> bool
     ensures joined { cell.new ≡ K.ops.join cell.old found.old }
     ensures told { changed.new ≡ (if result then K.ops.join cell.old found.old else K.ops.none) }

@@ -3,7 +3,7 @@ ghost use Rattle.std.specs.Prelude.{◌≡◌};
 ghost use Rattle.catalogue.specs.Refusals.{meant};
 ghost use Rattle.tables.specs.Rows.{row_answer};
 
-use crate::places::Width;
+use crate::places::Side;
 use catalogue::{Refusal, count_fits, outside};
 
 // The n cells of package `p`: labels, or the bytes of a set.
@@ -13,13 +13,13 @@ pub fn row<T>(table: &[T], n: u32, p: u32) -> Result<&[T], Refusal>
     if !count_fits(n) {
         return Err(Refusal::BadCount);
     }
-    let width = Width { n: n as usize };
-    if table.len() < width.area() {
+    let side = Side { n: n as usize };
+    if table.len() < side.area() {
         return Err(Refusal::ShortBuffer);
     }
     if outside(n, p) {
         return Err(Refusal::NoPackage);
     }
-    let from = width.row_start(p);
-    Ok(&table[from..from + width.n])
+    let from = side.row_start(p);
+    Ok(&table[from..from + side.n])
 }

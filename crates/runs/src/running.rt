@@ -1,4 +1,5 @@
-// Runs of calls, closings among them, and what they leave. The tables stay apart, as in `by_rounds`.
+// Runs of calls, closings among them, and what they leave. The tables stay apart, as in
+// `by_rounds`.
 ghost use Rattle.std.specs.Prelude.{◌≡◌, min, [], ◌∷◌, length};
 ghost use Rattle.catalogue.specs.Refusals.{answer};
 ghost use Rattle.catalogue.specs.Runs.{reckon};

@@ -1,7 +1,7 @@
 use catalogue::Call;
 
-// A call of a run: one that alters the catalogue, or a closing in the first so many cells of each of
-// the run's tables.
+// A call of a run: one that alters the catalogue, or a closing in the first so many cells of each
+// of the run's tables.
 #[derive(Clone, Copy, PartialEq, Eq, Debug)]
 pub enum Step<L> {
     Alter(Call<L>),

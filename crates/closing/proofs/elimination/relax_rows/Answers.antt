@@ -1,4 +1,4 @@
-use Rattle.std.proofs.Common.{◌≡◌, ℕ, ◌+◌, ◌-◌, ◌*◌, ◌<◌, ◌≤◌, length, get_or, sym, refl, ◌∙◌, ap, ap₂, arith, rules}
+use Rattle.std.proofs.Common.{◌≡◌, ℕ, ◌+◌, ◌-◌, ◌*◌, ◌≤◌, length, get_or, sym, refl, ◌∙◌, ap, ap₂, arith}
 use Rattle.std.proofs.lemmas.List.{get_or_read}
 use Rattle.paths.specs.Tables.{cell}
 use borrow.Rule.Slice.PartMut.{put_mid}
@@ -7,18 +7,6 @@ use Rattle.tables.proofs.RowWrites.{row_relaxed}
 use Rattle.tables.proofs.Stages.{row_left, row_more}
 use Rattle.closing.proofs.elimination.relax_rows.Goals as goal
 use Rattle.closing.proofs.elimination.relax_rows.Goals.{then-leads, else-leads}
-
-pub offset_bounds-rows-i : goal.offset_bounds-rows-i
-offset_bounds-rows-i g c =
-    let n = length c.args.via.now in
-    let below : c.loop-i.i * n + c.args.k < length c.args.rows.now = omega (arith, row_whole (length c.args.rows.now) n c.loop-i.i c.loop-i-test.true) in
-    search rules
-
-pub offset_bounds-rows-i-then-leads : goal.offset_bounds-rows-i-then-leads
-offset_bounds-rows-i-then-leads g c =
-    let n = length c.args.via.now in
-    let below : c.loop-i.i * n < length c.args.rows.now = omega (arith, row_whole (length c.args.rows.now) n c.loop-i.i c.loop-i-test.true) in
-    search rules
 
 pub loop-i-preserved : goal.loop-i-preserved
 loop-i-preserved g c =

@@ -4,12 +4,6 @@ use Rattle.catalogue.specs.Refusals.{on_ok}
 use Rattle.tables.proofs.Reading.{row_length}
 use Rattle.closing.proofs.label.cell.Goals as goal
 
-pub offset_bounds-cells-to : goal.offset_bounds-cells-to
-offset_bounds-cells-to g c = omega (arith, c.requires, row_length c.args.table.now c.args.n c.args.from c.in_ok-cells.cells.now c.in_ok-cells.ensures)
-
-pub bounds-cells-to : goal.bounds-cells-to
-bounds-cells-to g c = omega (arith, c.requires, row_length c.args.table.now c.args.n c.args.from c.in_ok-cells.cells.now c.in_ok-cells.ensures)
-
 pub returns : goal.returns
 returns g c =
     let none = g.K.Label.ops.none in

@@ -18,6 +18,6 @@ loop-k-preserved g c =
     elim c.match-arc_at.branch [
       | in-Some w ↦ led_more o g.met.C.Label.Label.laws m k S changed found c.loop-k.invariant (g.met.C.Catalogue.sound c.args.catalogue.now) c.requires.changed (omega (arith, c.loop-k.auto.found, c.requires.found))
           w.in-Some.arc w.in-Some.ensures c.match-arc_at.found w.follow.new.found w.found-is
-          (w.follow.ensures ∙ ap (λ n. put_row n found w.in-Some.arc.from (relaxed o w.in-Some.arc.label (row n found w.in-Some.arc.from) (row n changed w.in-Some.arc.to))) c.of-width.ensures)
+          (w.follow.ensures ∙ ap (λ n. put_row n found w.in-Some.arc.from (relaxed o w.in-Some.arc.label (row n found w.in-Some.arc.from) (row n changed w.in-Some.arc.to))) c.of-side.ensures)
       | in_default w ↦ along_none m o n (led o S (cell o n changed)) k found c.match-arc_at.found c.loop-k.invariant w.in_default.ensures w.found-is
     ]
