@@ -1,7 +1,7 @@
 -- A line is a command just where it is that command's written form. Assumes nothing.
-use Rattle.std.proofs.Common.{◌≡◌, ℕ, ◌-◌, ◌^◌, ◌<◌, ◌≤◌, true, cond, eqb, ltb, List, [], ◌∷◌, ◌++◌, length, get_or, take, drop, Some, None, Ok, decimal, Option, ok_or, sym, refl, ap, ◌∙◌, subst, arith}
+use Rattle.std.proofs.Common.{◌≡◌, ℕ, ◌^◌, ◌<◌, ◌≤◌, true, cond, eqb, ltb, List, [], ◌∷◌, ◌++◌, length, get_or, drop, Some, None, Ok, decimal, Option, ok_or, sym, refl, ap, ◌∙◌, subst, arith}
 use Rattle.std.proofs.lemmas.Fmt.{length-decimal-le}
-use Rattle.std.proofs.lemmas.List.{length-append, take_rest}
+use Rattle.std.proofs.lemmas.List.{length-append}
 use Rattle.std.proofs.lemmas.Option.{none-some, same_Some}
 use Rattle.std.proofs.lemmas.Bool.{and_from, and_parts, cond_both, cond-true, eqb-true, lt-ltb, ltb-true}
 use Rattle.catalogue.specs.Refusals.{answer}
@@ -54,9 +54,6 @@ taken_apart : (line : List ℕ) → opened line ≡ true → line ≡ get_or lin
 taken_apart [] e = absurd (omega (arith, opened_long [] e))
 taken_apart (l ∷ []) e = absurd (omega (arith, opened_long (l ∷ []) e))
 taken_apart (l ∷ b ∷ rest) e = ap (λ x. l ∷ (x ∷ rest)) (eqb-true b 32 (and_parts (ltb 1 (length (l ∷ b ∷ rest))) (eqb b 32) e).1)
-
-pub opened_reads : (line : List ℕ) → opened line ≡ true → command_of line ≡ by_letter (get_or line 0 0) (take (length line - 2) (drop 2 line))
-opened_reads line e = cond-true (opened line) _ _ e ∙ ap (by_letter (get_or line 0 0)) (sym (take_rest line 2))
 
 command_some : (line : List ℕ) (c : Command) → command_of line ≡ Some c → (line ≡ written c) × Fits c
 command_some line c =

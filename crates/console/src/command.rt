@@ -1,4 +1,5 @@
-// What a line can ask for. It holds no `Call`, since a line writes minutes as a number, which may be no label.
+// What a line can ask for. It holds numbers and no `Call`: the grammar says which lines are commands
+// whatever a label is.
 #[derive(Clone, Copy, PartialEq, Eq, Debug)]
 pub enum Command {
     Size(u32),

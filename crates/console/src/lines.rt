@@ -89,7 +89,7 @@ fn number(bytes: &[u8]) -> Option<u32>
 fn digits(bytes: &[u8]) -> Option<u32>
     ensures { result ≡ digits_of 0 bytes.now }
 {
-    // `try_fold` leaves its result open
+    // a loop: tried over `try_fold`, no proof was found
     let mut sum = 0;
     for byte in bytes {
         sum = grown(sum, *byte)?;

@@ -1,5 +1,6 @@
-// Each make, and stacks of layers, from the making on. Each is `exercise_made` at its type, so that a
-// contract names the making.
+// Each make, and stacks of layers, from the making on. Each is `exercise_made` at its type, so that
+// a contract names the making. The records come apart from n: of a slice lent in a struct, less is
+// known after the call.
 ghost use Rattle.std.specs.Prelude.{◌≡◌, length};
 ghost use Rattle.catalogue.specs.Makings.{ledger_of, sheet_of, turned_over, holding_over};
 ghost use Rattle.exercise.specs.Exercised.{FromFirst, FromMaking};

@@ -11,6 +11,7 @@ use closing::label_of;
 use runs::{Closings, Step, close_both, run};
 
 // Makes the calls, then closes in both ways, by elimination into `second`.
+#[tactic(auto, using(crate::proofs::After::told_after))]
 pub fn close_after<C: Catalogue>(
     catalogue: &mut C,
     steps: &[Step<C::Label>],
@@ -28,6 +29,7 @@ pub fn close_after<C: Catalogue>(
 }
 
 // Makes the calls, then tells the label of a pair.
+#[tactic(auto, using(crate::proofs::After::label_after_is))]
 pub fn label_after<C: Catalogue>(
     catalogue: &mut C,
     steps: &[Step<C::Label>],
