@@ -1,3 +1,4 @@
 pub mod Frozen
 pub mod Widths
 pub mod Wide
+pub mod References

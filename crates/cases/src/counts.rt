@@ -1,11 +1,9 @@
 // Counts of what a test has seen.
-ghost use Rattle.std.specs.Prelude.{◌≡◌, ◌<◌, ◌≤◌, IsTrue, false};
+ghost use Rattle.std.specs.Prelude.{◌≡◌, ◌+◌, ◌-◌, ◌^◌, min, if◌then◌else◌};
 
-// Counts one more where it holds.
+// Counts one more where it holds, up to the largest number.
 pub fn count(times: &mut usize, holds: bool)
-    ensures counted { IsTrue holds → 0 < times.new }
-    ensures passed_over { holds ≡ false → times.new ≡ times.old }
-    ensures kept { times.old ≤ times.new }
+    ensures { times.new ≡ (if holds then min (times.old + 1) (2 ^ 64 - 1) else times.old) }
 {
     *times = times.saturating_add(usize::from(holds));
 }

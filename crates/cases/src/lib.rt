@@ -1,4 +1,5 @@
-// A label kind and a layer of the tests' own, a slow reference catalogue, random numbers, and the tests.
+// A label kind and a layer of the tests' own, a slow reference catalogue, random numbers, and the
+// tests.
 #![tactic(auto)]
 
 mod checks;
@@ -25,7 +26,7 @@ mod widths;
 pub use checks::{check, check_eq};
 pub use counts::count;
 pub use frozen::Frozen;
-pub use places::blank;
+pub use places::{blank, empty_ledger};
 pub use reference::Reference;
 pub use rolls::Rolls;
 pub use width::Width;

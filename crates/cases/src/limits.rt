@@ -1,14 +1,14 @@
 // Sizes and holds at their limits.
 use crate::checks::{check, check_eq};
-use crate::places::blank;
-use catalogue::{Blank, Catalogue, Holding, Layer, Ledger, Make, Refusal};
+use crate::places::{blank, empty_ledger};
+use catalogue::{Catalogue, Holding, Layer, Refusal};
 use labels::Minutes;
 use paths::Arc;
 use std::test::Fail;
 
 // The answer to the making of a ledger of `n` packages.
 fn made(n: u32, arcs: &mut [Arc<Minutes>]) -> Result<(), Refusal> {
-    let _ = Ledger::make(Blank { n, arcs })?;
+    let _ = empty_ledger(n, arcs)?;
     Ok(())
 }
 
@@ -27,10 +27,7 @@ fn ledger_sizes(rt: HostRuntime) -> Result<(), Fail> {
 #[test]
 fn largest_ledger(rt: HostRuntime) -> Result<(), Fail> {
     let mut arcs = blank::<Minutes>(rt.alloc(), 3)?;
-    let mut ledger = Ledger::make(Blank {
-        n: 1024,
-        arcs: arcs.as_mut_slice(),
-    })?;
+    let mut ledger = empty_ledger(1024, arcs.as_mut_slice())?;
     assert_eq!(rt; ledger.places_left(), 3);
     assert_eq!(rt; ledger.admit(1022, 1023, Minutes { value: 7 }), Ok(()));
     assert_eq!(rt;
@@ -47,16 +44,13 @@ fn largest_ledger(rt: HostRuntime) -> Result<(), Fail> {
 #[test]
 fn most_places(rt: HostRuntime) -> Result<(), Fail> {
     let mut arcs = blank::<Minutes>(rt.alloc(), 65537)?;
-    let ledger = Ledger::make(Blank {
-        n: 2,
-        arcs: arcs.as_mut_slice(),
-    })?;
+    let ledger = empty_ledger(2, arcs.as_mut_slice())?;
     assert_eq!(rt; ledger.places_left(), 65536);
     Ok(())
 }
 
 // Holds packages 0 to `count` - 1, and is refused the next.
-pub fn hold_all<C: Catalogue>(c: &mut C, count: u32) -> Result<(), Fail> {
+pub(crate) fn hold_all<C: Catalogue>(c: &mut C, count: u32) -> Result<(), Fail> {
     // by number, since a package is one
     for p in 0..count {
         check(c.can_hold())?;
@@ -81,10 +75,7 @@ fn hold_another<C: Catalogue>(c: &mut C, lifted: u32, held: u32) -> Result<(), F
 #[test]
 fn most_holds(rt: HostRuntime) -> Result<(), Fail> {
     let mut arcs = blank::<Minutes>(rt.alloc(), 1)?;
-    let ledger = Ledger::make(Blank {
-        n: 100,
-        arcs: arcs.as_mut_slice(),
-    })?;
+    let ledger = empty_ledger(100, arcs.as_mut_slice())?;
     let mut top = Holding::over(ledger);
     hold_all(&mut top, 32)?;
     hold_another(&mut top, 5, 40)
@@ -93,10 +84,7 @@ fn most_holds(rt: HostRuntime) -> Result<(), Fail> {
 #[test]
 fn most_holds_of_two_layers(rt: HostRuntime) -> Result<(), Fail> {
     let mut arcs = blank::<Minutes>(rt.alloc(), 1)?;
-    let ledger = Ledger::make(Blank {
-        n: 100,
-        arcs: arcs.as_mut_slice(),
-    })?;
+    let ledger = empty_ledger(100, arcs.as_mut_slice())?;
     let mut top = Holding::over(Holding::over(ledger));
     hold_all(&mut top, 64)?;
     hold_another(&mut top, 5, 70)?;

@@ -1,9 +1,9 @@
 // The tests' own kind and layer, through code that knows neither.
 use crate::checks::check_eq;
 use crate::frozen::Frozen;
-use crate::places::blank;
+use crate::places::{blank, empty_ledger};
 use crate::width::Width;
-use catalogue::{Blank, Call, Catalogue, Holding, Layer, Ledger, Make, Refusal, run};
+use catalogue::{Call, Catalogue, Holding, Layer, Refusal, run};
 use exercise::{Answers, Arguments, Outcomes, Replies, exercise};
 use labels::Label;
 use paths::Arc;
@@ -88,10 +88,7 @@ fn check_calls(answers: Answers<Width>, taken: Result<usize, Refusal>) -> Result
 #[test]
 fn width_exercised(rt: HostRuntime) -> Result<(), Fail> {
     let mut arcs = blank::<Width>(rt.alloc(), 4)?;
-    let ledger = Ledger::make(Blank {
-        n: 3,
-        arcs: arcs.as_mut_slice(),
-    })?;
+    let ledger = empty_ledger(3, arcs.as_mut_slice())?;
     let mut top = Holding::over(ledger);
     run(&mut top, &first_calls());
     let answers = exercise(&mut top, arguments());
@@ -105,10 +102,7 @@ fn width_exercised(rt: HostRuntime) -> Result<(), Fail> {
 #[test]
 fn frozen_width_exercised(rt: HostRuntime) -> Result<(), Fail> {
     let mut arcs = blank::<Width>(rt.alloc(), 4)?;
-    let ledger = Ledger::make(Blank {
-        n: 3,
-        arcs: arcs.as_mut_slice(),
-    })?;
+    let ledger = empty_ledger(3, arcs.as_mut_slice())?;
     let mut holding = Holding::over(ledger);
     run(&mut holding, &first_calls());
     let mut top = Frozen::over(holding);

@@ -1,4 +1,9 @@
-// A catalogue by the rules alone: plain lists, everything counted anew at each question.
+// A catalogue by the rules alone: plain lists, everything counted anew at each question. What its
+// calls answer has no contract: it is what the proved code is compared with.
+ghost use Rattle.std.specs.Prelude.{◌≡◌, ◌-◌, length, map, nat_lt};
+ghost use Rattle.paths.specs.Arcs.{turn};
+ghost use Rattle.cases.specs.References.{Kept};
+
 use catalogue::{Call, Refusal};
 use paths::Arc;
 use std::alloc::{AllocError, Global};
@@ -34,13 +39,14 @@ impl<L: Copy + PartialEq> Reference<L> {
     }
 
     // A layer that exchanges the ends of every arc is laid.
-    pub fn turn(&mut self) {
+    pub fn turn(&mut self)
+        ensures stock { self.new.stock.items ≡ map turn self.old.stock.items }
+        ensures held { self.new.held.items ≡ self.old.held.items }
+        ensures counts { (self.new.n ≡ self.old.n) × (self.new.capacity ≡ self.old.capacity) × (self.new.most_held ≡ self.old.most_held) }
+        ensures rest { (self.new.none ≡ self.old.none) × (self.new.sealed ≡ self.old.sealed) }
+    {
         for arc in self.stock.iter_mut() {
-            *arc = Arc {
-                from: arc.to,
-                to: arc.from,
-                label: arc.label,
-            };
+            *arc = turned(*arc);
         }
     }
 
@@ -52,7 +58,9 @@ impl<L: Copy + PartialEq> Reference<L> {
         self.stock.len()
     }
 
-    pub fn places_left(&self) -> usize {
+    pub fn places_left(&self) -> usize
+        ensures { result ≡ self.now.capacity - length self.now.stock.items }
+    {
         self.capacity.saturating_sub(self.stock.len())
     }
 
@@ -64,21 +72,23 @@ impl<L: Copy + PartialEq> Reference<L> {
         self.held.contains(&p)
     }
 
-    pub fn can_hold(&self) -> bool {
+    pub fn can_hold(&self) -> bool
+        ensures { result ≡ nat_lt (length self.now.held.items) self.now.most_held }
+    {
         self.held.len() < self.most_held
     }
 
     pub fn arc_at(&self, k: usize) -> Option<Arc<L>> {
-        let arc = *self.stock.get(k)?;
-        if self.is_held(arc.from) || self.is_held(arc.to) {
-            None
-        } else {
-            Some(arc)
-        }
+        self.stock
+            .get(k)
+            .copied()
+            .filter(|arc| !(self.is_held(arc.from) || self.is_held(arc.to)))
     }
 
     // Makes each call in turn, whatever it answers.
-    pub fn run(&mut self, calls: &[Call<L>]) -> Result<(), AllocError> {
+    pub fn run(&mut self, calls: &[Call<L>]) -> Result<(), AllocError>
+        ensures { Kept self.old self.new }
+    {
         for call in calls {
             let _ = self.call(*call)?;
         }
@@ -86,7 +96,9 @@ impl<L: Copy + PartialEq> Reference<L> {
     }
 
     // How many arcs the call took out, or why it was refused; apart from that, memory can run out.
-    pub fn call(&mut self, call: Call<L>) -> Result<Result<usize, Refusal>, AllocError> {
+    pub(crate) fn call(&mut self, call: Call<L>) -> Result<Result<usize, Refusal>, AllocError>
+        ensures { Kept self.old self.new }
+    {
         match call {
             Call::Admit(from, to, label) => self.admit(Arc { from, to, label }),
             Call::Withdraw(from, to) => Ok(self.withdraw(from, to)),
@@ -95,7 +107,9 @@ impl<L: Copy + PartialEq> Reference<L> {
         }
     }
 
-    fn admit(&mut self, arc: Arc<L>) -> Result<Result<usize, Refusal>, AllocError> {
+    fn admit(&mut self, arc: Arc<L>) -> Result<Result<usize, Refusal>, AllocError>
+        ensures { Kept self.old self.new }
+    {
         if self.sealed {
             return Ok(Err(Refusal::Sealed));
         }
@@ -115,7 +129,9 @@ impl<L: Copy + PartialEq> Reference<L> {
         Ok(Ok(0))
     }
 
-    fn withdraw(&mut self, from: u32, to: u32) -> Result<usize, Refusal> {
+    fn withdraw(&mut self, from: u32, to: u32) -> Result<usize, Refusal>
+        ensures { Kept self.old self.new }
+    {
         if self.sealed {
             return Err(Refusal::Sealed);
         }
@@ -131,7 +147,9 @@ impl<L: Copy + PartialEq> Reference<L> {
         Ok(taken)
     }
 
-    fn hold(&mut self, p: u32) -> Result<Result<usize, Refusal>, AllocError> {
+    fn hold(&mut self, p: u32) -> Result<Result<usize, Refusal>, AllocError>
+        ensures { Kept self.old self.new }
+    {
         if p >= self.n {
             return Ok(Err(Refusal::NoPackage));
         }
@@ -145,7 +163,9 @@ impl<L: Copy + PartialEq> Reference<L> {
         Ok(Ok(0))
     }
 
-    fn lift(&mut self, p: u32) -> Result<usize, Refusal> {
+    fn lift(&mut self, p: u32) -> Result<usize, Refusal>
+        ensures { Kept self.old self.new }
+    {
         if p >= self.n {
             return Err(Refusal::NoPackage);
         }
@@ -154,5 +174,16 @@ impl<L: Copy + PartialEq> Reference<L> {
         }
         self.held.retain(|q| *q != p);
         Ok(0)
+    }
+}
+
+// An arc with its ends exchanged; not by the method of `Arc`, which is what it is compared with.
+fn turned<L: Copy>(arc: Arc<L>) -> Arc<L>
+    ensures { result ≡ turn arc }
+{
+    Arc {
+        from: arc.to,
+        to: arc.from,
+        label: arc.label,
     }
 }

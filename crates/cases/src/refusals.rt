@@ -2,8 +2,8 @@
 use crate::checks::check_eq;
 use crate::frozen::Frozen;
 use crate::limits::hold_all;
-use crate::places::blank;
-use catalogue::{Blank, Call, Catalogue, Holding, Layer, Ledger, Make, Refusal, Sheet, make_call};
+use crate::places::{blank, empty_ledger};
+use catalogue::{Call, Catalogue, Holding, Layer, Make, Refusal, Sheet, make_call};
 use labels::Minutes;
 use std::test::Fail;
 
@@ -87,10 +87,7 @@ fn with_32_held() -> [Case; 7] {
 #[test]
 fn full_ledger(rt: HostRuntime) -> Result<(), Fail> {
     let mut arcs = blank::<Minutes>(rt.alloc(), 1)?;
-    let mut ledger = Ledger::make(Blank {
-        n: 3,
-        arcs: arcs.as_mut_slice(),
-    })?;
+    let mut ledger = empty_ledger(3, arcs.as_mut_slice())?;
     check_cases(&mut ledger, &[gives(admit(0, 1, 5), Ok(()))])?;
     check_cases(&mut ledger, &without_holds())?;
     check_cases(&mut ledger, &full())
@@ -107,10 +104,7 @@ fn sealed_sheet(rt: HostRuntime) -> Result<(), Fail> {
 #[test]
 fn frozen_ledger(rt: HostRuntime) -> Result<(), Fail> {
     let mut arcs = blank::<Minutes>(rt.alloc(), 2)?;
-    let mut ledger = Ledger::make(Blank {
-        n: 3,
-        arcs: arcs.as_mut_slice(),
-    })?;
+    let mut ledger = empty_ledger(3, arcs.as_mut_slice())?;
     check_cases(&mut ledger, &[gives(admit(0, 1, 5), Ok(()))])?;
     let mut top = Frozen::over(ledger);
     check_cases(&mut top, &sealed())?;
@@ -120,10 +114,7 @@ fn frozen_ledger(rt: HostRuntime) -> Result<(), Fail> {
 #[test]
 fn holds_and_lifts(rt: HostRuntime) -> Result<(), Fail> {
     let mut arcs = blank::<Minutes>(rt.alloc(), 1)?;
-    let ledger = Ledger::make(Blank {
-        n: 40,
-        arcs: arcs.as_mut_slice(),
-    })?;
+    let ledger = empty_ledger(40, arcs.as_mut_slice())?;
     let mut top = Holding::over(ledger);
     check_cases(&mut top, &[gives(Call::Lift(0), Err(Refusal::NotHeld))])?;
     hold_all(&mut top, 32)?;

@@ -19,8 +19,8 @@ impl Rolls {
         high.checked_rem(end).unwrap_or(0)
     }
 
-    // A call on a catalogue of `n` packages: a package number can be `n` too, ends can be equal, and
-    // one label in eight is none.
+    // A call on a catalogue of `n` packages: a package number can be `n` too, ends can be equal,
+    // and one label in eight is none.
     pub fn call(&mut self, n: u32) -> Call<Minutes> {
         let end = n.saturating_add(1);
         let sort = self.below(8);

@@ -67,7 +67,7 @@ impl<K: Kind> Chains<K> {
     }
 
     // L(n) of a pair.
-    pub fn word(&self, from: u32, to: u32) -> u32 {
+    pub(crate) fn word(&self, from: u32, to: u32) -> u32 {
         self.within(self.n, from, to)
     }
 

@@ -23,13 +23,9 @@ pub fn unwritten<K: Label>(heap: Global) -> Result<Vec<K>, AllocError> {
 
 // The label of every pair in its cell, and the cells behind them unwritten.
 fn check_table<K: Kind>(table: &[K], chains: &Chains<K>) -> Result<(), Fail> {
+    let n = chains.n();
     let mut cells = table.iter();
-    // by number: that is how a pair is asked for
-    for i in 0..chains.n() {
-        for j in 0..chains.n() {
-            check(cells.next() == Some(&label(chains.word(i, j))))?;
-        }
-    }
+    check((0..n).all(|i| (0..n).all(|j| cells.next() == Some(&label(chains.word(i, j))))))?;
     check(cells.all(|cell| *cell == K::WHOLE))
 }
 
@@ -38,11 +34,8 @@ fn check_rows<K: Kind>(table: &[K], chains: &Chains<K>) -> Result<(), Fail> {
     let n = chains.n();
     // by number: that is how a row is asked for
     for p in 0..n {
-        let mut cells = row(table, n, p)?.iter();
-        for j in 0..n {
-            check(cells.next() == Some(&label(chains.word(p, j))))?;
-        }
-        check(cells.next().is_none())?;
+        let cells = row(table, n, p)?.iter().copied();
+        check(cells.eq((0..n).map(|j| label(chains.word(p, j)))))?;
     }
     Ok(())
 }
@@ -53,7 +46,7 @@ fn check_labels<K: Kind, C: Catalogue<Label = K>>(
     table: &mut [K],
     chains: &Chains<K>,
 ) -> Result<(), Fail> {
-    // by number: that is how a pair is asked for
+    // by number: a pair is asked for so, and each question can be refused
     for i in 0..chains.n() {
         for j in 0..chains.n() {
             check(label_of(c, table, i, j)? == label(chains.word(i, j)))?;

@@ -1,4 +1,4 @@
-// The label kinds by the rules alone: a label is a word.
+// The label kinds by the rules alone, apart from the labels' own operations: a label is a word.
 use cases::{Rolls, Width};
 use labels::{Label, Licence, Minutes, Reach};
 

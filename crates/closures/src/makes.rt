@@ -3,8 +3,8 @@ use crate::chains::Chains;
 use crate::closed::check_closed;
 use crate::kinds::Kind;
 use crate::scenes::{PLACES, admission, any_call, in_force, labelled};
-use cases::{Frozen, Reference, Rolls, Width, blank, check, count};
-use catalogue::{Blank, Call, Catalogue, Holding, Layer, Ledger, Make, Sheet, Turned, run};
+use cases::{Frozen, Reference, Rolls, Width, blank, check, count, empty_ledger};
+use catalogue::{Call, Catalogue, Holding, Layer, Ledger, Make, Sheet, Turned, run};
 use labels::{Licence, Minutes, Reach};
 use paths::Arc;
 use std::alloc::{AllocError, Global};
@@ -52,7 +52,7 @@ impl<K: Kind> Scene<K> {
 
     // A ledger after the first calls.
     fn ledger<'a>(&self, arcs: &'a mut [Arc<K>]) -> Result<Ledger<'a, K>, Fail> {
-        let mut ledger = Ledger::make(Blank { n: self.n, arcs })?;
+        let mut ledger = empty_ledger(self.n, arcs)?;
         let calls = labelled(self.heap, self.first.as_slice())?;
         run(&mut ledger, calls.as_slice());
         Ok(ledger)
@@ -147,22 +147,26 @@ fn compare<K: Kind, C: Catalogue<Label = K>>(
 fn sheet_bytes(heap: Global, n: u32, arcs: &[Arc<u32>]) -> Result<Vec<u8>, AllocError> {
     let mut pairs = Vec::new(heap);
     let mut runs = Vec::new(heap);
-    let mut offset = n.saturating_mul(8).saturating_add(4);
+    let first = n.saturating_mul(8).saturating_add(4);
     pairs.extend_from_slice(&n.to_le_bytes())?;
     // by number, since a package without arcs has a pair too
     for p in 0..n {
-        let mut length = 0u32;
+        let before = len_as_word(&runs);
         for arc in arcs.iter().filter(|arc| arc.from == p) {
             runs.extend_from_slice(&arc.to.to_le_bytes())?;
             runs.extend_from_slice(&arc.label.to_le_bytes())?;
-            length = length.saturating_add(8);
         }
-        pairs.extend_from_slice(&offset.to_le_bytes())?;
+        let length = len_as_word(&runs).saturating_sub(before);
+        pairs.extend_from_slice(&first.saturating_add(before).to_le_bytes())?;
         pairs.extend_from_slice(&length.to_le_bytes())?;
-        offset = offset.saturating_add(length);
     }
     pairs.extend_from_slice(runs.as_slice())?;
     Ok(pairs)
+}
+
+// How many bytes these are, as a sheet has it.
+fn len_as_word(bytes: &Vec<u8>) -> u32 {
+    u32::try_from(bytes.len()).unwrap_or(u32::MAX)
 }
 
 // Have two arcs the same ends?
@@ -170,7 +174,7 @@ fn parallel(arcs: &[Arc<u32>]) -> bool {
     arcs.iter().enumerate().any(|(k, arc)| {
         arcs.iter()
             .take(k)
-            .any(|other| other.from == arc.from && other.to == arc.to)
+            .any(|other| other.joins(arc.from, arc.to))
     })
 }
 

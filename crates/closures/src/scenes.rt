@@ -21,13 +21,13 @@ fn arc<K: Kind>(rolls: &mut Rolls, n: u32) -> Arc<u32> {
     }
 }
 
-pub fn admission<K: Kind>(rolls: &mut Rolls, n: u32) -> Call<u32> {
+pub(crate) fn admission<K: Kind>(rolls: &mut Rolls, n: u32) -> Call<u32> {
     let arc = arc::<K>(rolls, n);
     Call::Admit(arc.from, arc.to, arc.label)
 }
 
 // Mostly an admission, and else one of the other calls.
-pub fn any_call<K: Kind>(rolls: &mut Rolls, n: u32) -> Call<u32> {
+pub(crate) fn any_call<K: Kind>(rolls: &mut Rolls, n: u32) -> Call<u32> {
     let arc = arc::<K>(rolls, n);
     match rolls.below(10) {
         0 => Call::Withdraw(arc.from, arc.to),
@@ -49,17 +49,20 @@ fn in_labels<K: Label>(call: Call<u32>) -> Call<K> {
 }
 
 // The calls with labels in place of words. A loop, since the borrow checker does not cover a `map`
-// whose result names a kind that no argument names.
+// whose result names a kind that neither its argument nor what its closure captures names.
 pub fn labelled<K: Label>(heap: Global, calls: &[Call<u32>]) -> Result<Vec<Call<K>>, AllocError> {
-    let mut told = Vec::new(heap);
+    let mut labelled_calls = Vec::new(heap);
     for call in calls {
-        told.push(in_labels(*call))?;
+        labelled_calls.push(in_labels(*call))?;
     }
-    Ok(told)
+    Ok(labelled_calls)
 }
 
 // The arcs in force, in their order.
-pub fn in_force(heap: Global, reference: &Reference<u32>) -> Result<Vec<Arc<u32>>, AllocError> {
+pub(crate) fn in_force(
+    heap: Global,
+    reference: &Reference<u32>,
+) -> Result<Vec<Arc<u32>>, AllocError> {
     (0..reference.stock_len())
         .filter_map(|k| reference.arc_at(k))
         .collect(heap)

@@ -1,7 +1,7 @@
 // Buffers that are too short, and the refusals of a row.
 use crate::scenes::PLACES;
-use cases::{blank, check, check_eq};
-use catalogue::{Blank, Catalogue, Ledger, Make, Refusal};
+use cases::{blank, check, check_eq, empty_ledger};
+use catalogue::{Catalogue, Refusal};
 use closing::{by_elimination, by_rounds, label_of, row};
 use labels::Minutes;
 use std::alloc::{AllocError, Global};
@@ -21,11 +21,11 @@ fn check_numbered(table: &[Minutes], cells: u32) -> Result<(), Fail> {
 fn check_short<C: Catalogue<Label = Minutes>>(
     c: &C,
     heap: Global,
-    sizes: (u32, u32, u32),
+    (table_cells, changed_cells, found_cells): (u32, u32, u32),
 ) -> Result<(), Fail> {
-    let mut table = numbered(heap, sizes.0)?;
-    let mut changed = numbered(heap, sizes.1)?;
-    let mut found = numbered(heap, sizes.2)?;
+    let mut table = numbered(heap, table_cells)?;
+    let mut changed = numbered(heap, changed_cells)?;
+    let mut found = numbered(heap, found_cells)?;
     let answer = by_rounds(
         c,
         table.as_mut_slice(),
@@ -33,20 +33,16 @@ fn check_short<C: Catalogue<Label = Minutes>>(
         found.as_mut_slice(),
     );
     check_eq(answer, Err(Refusal::ShortBuffer))?;
-    check_numbered(table.as_slice(), sizes.0)?;
-    check_numbered(changed.as_slice(), sizes.1)?;
-    check_numbered(found.as_slice(), sizes.2)?;
-    Ok(())
+    check_numbered(table.as_slice(), table_cells)?;
+    check_numbered(changed.as_slice(), changed_cells)?;
+    check_numbered(found.as_slice(), found_cells)
 }
 
 #[test]
 fn short_tables(rt: HostRuntime) -> Result<(), Fail> {
     let heap = rt.alloc();
     let mut arcs = blank(heap, PLACES)?;
-    let mut ledger = Ledger::make(Blank {
-        n: 3,
-        arcs: arcs.as_mut_slice(),
-    })?;
+    let mut ledger = empty_ledger(3, arcs.as_mut_slice())?;
     ledger.admit(0, 1, Minutes { value: 4 })?;
     ledger.admit(1, 2, Minutes { value: 3 })?;
     check_short(&ledger, heap, (8, 9, 9))?;

@@ -3,8 +3,8 @@ use crate::chains::Chains;
 use crate::closed::{label, unwritten};
 use crate::kinds::Kind;
 use crate::scenes::{PLACES, in_force, labelled};
-use cases::{Reference, blank, check, check_eq};
-use catalogue::{Blank, Call, Holding, Layer, Ledger, Make, run};
+use cases::{Reference, blank, check, check_eq, empty_ledger};
+use catalogue::{Call, Holding, Layer, run};
 use closing::row;
 use labels::{Licence, Minutes, Reach};
 use paths::Arc;
@@ -36,13 +36,10 @@ fn check_case<K: Kind>(
     pairs: &[Arc<u32>],
 ) -> Result<(), Fail> {
     let mut arcs = blank::<K>(heap, PLACES)?;
-    let ledger = Ledger::make(Blank {
-        n,
-        arcs: arcs.as_mut_slice(),
-    })?;
+    let ledger = empty_ledger(n, arcs.as_mut_slice())?;
     let mut top = Holding::over(ledger);
-    let told = labelled(heap, calls)?;
-    run(&mut top, told.as_slice());
+    let labelled_calls = labelled(heap, calls)?;
+    run(&mut top, labelled_calls.as_slice());
     let mut first = unwritten(heap)?;
     let mut changed = unwritten(heap)?;
     let mut found = unwritten(heap)?;
