@@ -2,3 +2,4 @@ pub mod Frozen
 pub mod Widths
 pub mod Wide
 pub mod References
+pub mod Rolled

@@ -1,8 +1,9 @@
 // A catalogue by the rules alone: plain lists, everything counted anew at each question. What its
 // calls answer has no contract: it is what the proved code is compared with.
-ghost use Rattle.std.specs.Prelude.{◌≡◌, ◌-◌, length, map, nat_lt};
+ghost use Rattle.std.specs.Prelude.{◌≡◌, true, false, [], length, map, nat_lt};
+ghost use Rattle.catalogue.specs.Calls.{arc_at};
 ghost use Rattle.paths.specs.Arcs.{turn};
-ghost use Rattle.cases.specs.References.{Kept};
+ghost use Rattle.cases.specs.References.{meant, SameLimits, Kept};
 
 use catalogue::{Call, Refusal};
 use paths::Arc;
@@ -21,7 +22,10 @@ pub struct Reference<L> {
 }
 
 impl<L: Copy + PartialEq> Reference<L> {
-    pub fn new(heap: Global, n: u32, none: L, capacity: usize, most_held: usize) -> Reference<L> {
+    pub fn new(heap: Global, n: u32, none: L, capacity: usize, most_held: usize) -> Reference<L>
+        ensures limits { (result.n ≡ n) × (result.none ≡ none) × (result.capacity ≡ capacity) × (result.most_held ≡ most_held) }
+        ensures empty { (result.sealed ≡ false) × (result.stock.items ≡ []) × (result.held.items ≡ []) }
+    {
         Reference {
             n,
             none,
@@ -34,7 +38,11 @@ impl<L: Copy + PartialEq> Reference<L> {
     }
 
     // A layer that seals is laid.
-    pub fn seal(&mut self) {
+    pub fn seal(&mut self)
+        ensures sealed { self.new.sealed ≡ true }
+        ensures lists { (self.new.stock.items ≡ self.old.stock.items) × (self.new.held.items ≡ self.old.held.items) }
+        ensures limits { SameLimits self.old self.new }
+    {
         self.sealed = true;
     }
 
@@ -42,43 +50,53 @@ impl<L: Copy + PartialEq> Reference<L> {
     pub fn turn(&mut self)
         ensures stock { self.new.stock.items ≡ map turn self.old.stock.items }
         ensures held { self.new.held.items ≡ self.old.held.items }
-        ensures counts { (self.new.n ≡ self.old.n) × (self.new.capacity ≡ self.old.capacity) × (self.new.most_held ≡ self.old.most_held) }
-        ensures rest { (self.new.none ≡ self.old.none) × (self.new.sealed ≡ self.old.sealed) }
+        ensures sealed { self.new.sealed ≡ self.old.sealed }
+        ensures limits { SameLimits self.old self.new }
     {
         for arc in self.stock.iter_mut() {
             *arc = turned(*arc);
         }
     }
 
-    pub fn n(&self) -> u32 {
+    pub fn n(&self) -> u32
+        ensures { result ≡ (meant self.now).n }
+    {
         self.n
     }
 
-    pub fn stock_len(&self) -> usize {
+    pub fn stock_len(&self) -> usize
+        ensures { result ≡ length (meant self.now).stock }
+    {
         self.stock.len()
     }
 
     pub fn places_left(&self) -> usize
-        ensures { result ≡ self.now.capacity - length self.now.stock.items }
+        ensures { result ≡ (meant self.now).places }
     {
         self.capacity.saturating_sub(self.stock.len())
     }
 
-    pub fn sealed(&self) -> bool {
+    pub fn sealed(&self) -> bool
+        ensures { result ≡ (meant self.now).sealed }
+    {
         self.sealed
     }
 
-    pub fn is_held(&self, p: u32) -> bool {
+    pub fn is_held(&self, p: u32) -> bool
+        ensures { result ≡ (meant self.now).held p }
+    {
         self.held.contains(&p)
     }
 
     pub fn can_hold(&self) -> bool
-        ensures { result ≡ nat_lt (length self.now.held.items) self.now.most_held }
+        ensures { result ≡ nat_lt 0 (meant self.now).holds }
     {
         self.held.len() < self.most_held
     }
 
-    pub fn arc_at(&self, k: usize) -> Option<Arc<L>> {
+    pub fn arc_at(&self, k: usize) -> Option<Arc<L>>
+        ensures { result ≡ arc_at (meant self.now) k }
+    {
         self.stock
             .get(k)
             .copied()

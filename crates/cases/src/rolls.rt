@@ -1,4 +1,7 @@
 // Numbers that look random, the same on every run.
+ghost use Rattle.std.specs.Prelude.{◌≡◌, ◌<◌};
+ghost use Rattle.cases.specs.Rolled.{Near};
+
 use catalogue::Call;
 use labels::Minutes;
 
@@ -8,12 +11,17 @@ pub struct Rolls {
 }
 
 impl Rolls {
-    pub fn new(seed: u32) -> Rolls {
+    pub fn new(seed: u32) -> Rolls
+        ensures { result.state ≡ seed }
+    {
         Rolls { state: seed }
     }
 
     // A number below `end`, or 0.
-    pub fn below(&mut self, end: u32) -> u32 {
+    pub fn below(&mut self, end: u32) -> u32
+        ensures below { 0 < end → result < end }
+        ensures none { end ≡ 0 → result ≡ 0 }
+    {
         self.state = self.state.wrapping_mul(1664525).wrapping_add(1013904223);
         let high = self.state >> 12;
         high.checked_rem(end).unwrap_or(0)
@@ -21,7 +29,9 @@ impl Rolls {
 
     // A call on a catalogue of `n` packages: a package number can be `n` too, ends can be equal,
     // and one label in eight is none.
-    pub fn call(&mut self, n: u32) -> Call<Minutes> {
+    pub fn call(&mut self, n: u32) -> Call<Minutes>
+        ensures { Near n result }
+    {
         let end = n.saturating_add(1);
         let sort = self.below(8);
         let from = self.below(end);
