@@ -7,7 +7,7 @@ use Rattle.std.proofs.lemmas.Bool.{and_from, and_parts, cond_both, cond-true, eq
 use Rattle.catalogue.specs.Refusals.{answer}
 use Rattle.catalogue.specs.declared.refusal.Refusal.TheVariants.{NotCommand}
 use Rattle.console.specs.declared.command.Command.{Command}
-use Rattle.console.specs.declared.command.Command.TheVariants.{Size, Admit, Withdraw, Hold, Lift}
+use Rattle.console.specs.declared.command.Command.TheVariants.{Size, Admit, Withdraw, Hold, Lift, Label}
 use Rattle.console.specs.Grammar.{Exactly, Fits, admit_of, by_letter, command_of, field, number_of, opened, or_16, three_of, two_of, with, written}
 use Rattle.console.proofs.Fields.{three_all, three_some, two_all, two_some, with_some}
 use Rattle.console.proofs.Numbers.{number_all, number_some}
@@ -45,7 +45,8 @@ by_letter_some l bs c =
     (by_one l 119 bs c _ _ (pair_some (λ f t. Withdraw f t) 119 (λ f t. refl) (λ f t h k. (h, k)) bs c)
     (by_one l 104 bs c _ _ (one_some (λ p. Hold p) 104 (λ p. refl) (λ p h. h) bs c)
     (by_one l 108 bs c _ _ (one_some (λ p. Lift p) 108 (λ p. refl) (λ p h. h) bs c)
-    (λ e. absurd (none-some c e))))))
+    (by_one l 109 bs c _ _ (pair_some (λ f t. Label f t) 109 (λ f t. refl) (λ f t h k. (h, k)) bs c)
+    (λ e. absurd (none-some c e)))))))
 
 pub opened_long : (line : List ℕ) → opened line ≡ true → 1 < length line
 opened_long line e = ltb-true 1 (length line) (and_parts (ltb 1 (length line)) (eqb (get_or line 1 0) 32) e).0
@@ -72,6 +73,7 @@ command_all (Admit f t m) fits = opening 97 (decimal f ++ (field t ++ field m)) 
 command_all (Withdraw f t) fits = opening 119 (decimal f ++ field t) ∙ ap (λ o. with o (λ n. Some (Withdraw n.0 n.1))) (two_all f t fits.0 fits.1)
 command_all (Hold p) fits = opening 104 (decimal p) ∙ ap (λ o. with o (λ n. Some (Hold n))) (number_all p fits)
 command_all (Lift p) fits = opening 108 (decimal p) ∙ ap (λ o. with o (λ n. Some (Lift n))) (number_all p fits)
+command_all (Label f t) fits = opening 109 (decimal f ++ field t) ∙ ap (λ o. with o (λ n. Some (Label n.0 n.1))) (two_all f t fits.0 fits.1)
 
 pub exactly : (line : List ℕ) (o : Option Command) → o ≡ command_of line → Exactly line (ok_or o NotCommand)
 exactly line (Some c) e = record {
@@ -95,6 +97,7 @@ written_le (Admit f t m) fits = omega (arith, field_le f fits.0, field_le t fits
 written_le (Withdraw f t) fits = omega (arith, field_le f fits.0, field_le t fits.1, length-append (field f) (field t))
 written_le (Hold p) fits = omega (arith, field_le p fits)
 written_le (Lift p) fits = omega (arith, field_le p fits)
+written_le (Label f t) fits = omega (arith, field_le f fits.0, field_le t fits.1, length-append (field f) (field t))
 
 none_left : {X : Type 0} (o : Option X) → ((x : X) → o ≡ Some x → ⊥) → o ≡ None
 none_left None h = refl

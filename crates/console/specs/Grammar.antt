@@ -3,7 +3,7 @@ use Rattle.std.specs.Prelude.{◌≡◌, ℕ, ◌+◌, ◌-◌, ◌*◌, ◌^◌
 use Rattle.catalogue.specs.declared.refusal.Refusal.{Refusal}
 use Rattle.catalogue.specs.Refusals.{answer}
 use Rattle.console.specs.declared.command.Command.{Command}
-use Rattle.console.specs.declared.command.Command.TheVariants.{Size, Admit, Withdraw, Hold, Lift}
+use Rattle.console.specs.declared.command.Command.TheVariants.{Size, Admit, Withdraw, Hold, Lift, Label}
 
 -- f of what o holds
 abbrev pub with : {X Y : Type 0} → Option X → (X → Option Y) → Option Y
@@ -59,9 +59,12 @@ hold_of bs = with (number_of bs) (λ p. Some (Hold p))
 abbrev pub lift_of : List ℕ → Option Command
 lift_of bs = with (number_of bs) (λ p. Some (Lift p))
 
--- by the letters n, a, w, h, l
+abbrev pub label_of : List ℕ → Option Command
+label_of bs = with (two_of bs) (λ t. Some (Label t.0 t.1))
+
+-- by the letters n, a, w, h, l, m
 abbrev pub by_letter : ℕ → List ℕ → Option Command
-by_letter l bs = cond (l == 110) (size_of bs) (cond (l == 97) (admit_of bs) (cond (l == 119) (withdraw_of bs) (cond (l == 104) (hold_of bs) (cond (l == 108) (lift_of bs) None))))
+by_letter l bs = cond (l == 110) (size_of bs) (cond (l == 97) (admit_of bs) (cond (l == 119) (withdraw_of bs) (cond (l == 104) (hold_of bs) (cond (l == 108) (lift_of bs) (cond (l == 109) (label_of bs) None)))))
 
 -- a byte and a space come first
 abbrev pub opened : List ℕ → Bool
@@ -82,6 +85,7 @@ written (Admit f t m) = 97 ∷ (field f ++ (field t ++ field m))
 written (Withdraw f t) = 119 ∷ (field f ++ field t)
 written (Hold p) = 104 ∷ field p
 written (Lift p) = 108 ∷ field p
+written (Label f t) = 109 ∷ (field f ++ field t)
 
 abbrev pub Fits : Command → Type 0
 Fits (Size p) = p < 2 ^ 32
@@ -89,6 +93,7 @@ Fits (Admit f t m) = (f < 2 ^ 32) × (t < 2 ^ 32) × (m < 2 ^ 32)
 Fits (Withdraw f t) = (f < 2 ^ 32) × (t < 2 ^ 32)
 Fits (Hold p) = p < 2 ^ 32
 Fits (Lift p) = p < 2 ^ 32
+Fits (Label f t) = (f < 2 ^ 32) × (t < 2 ^ 32)
 
 -- what a line is: its command, or 16
 abbrev pub or_16 : Option Command → Result Command ℕ

@@ -1,3 +1,4 @@
 pub mod Content
 pub mod Grammar
+pub mod Replies
 pub mod Sessions

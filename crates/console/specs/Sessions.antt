@@ -1,13 +1,17 @@
 -- What a line does.
-use Rattle.std.specs.Prelude.{ℕ, cond, ◌||◌, List, Some, None, Ok, Err, Option, Result, ◌==◌, nat_lt}
+use Rattle.std.specs.Prelude.{ℕ, cond, ◌||◌, List, length, Some, None, Ok, Err, Option, Result, ◌==◌, nat_lt}
 use Rattle.labels.specs.declared.kinds.Minutes.{Minutes}
 use Rattle.labels.specs.Kinds.{minutes_ops, minutes_of}
 use Rattle.catalogue.specs.Meanings.{Meaning}
+use Rattle.catalogue.specs.Refusals.{on_ok}
 use Rattle.catalogue.specs.declared.call.Call.{Call}
 use Rattle.catalogue.specs.declared.call.Call.TheVariants as calls
 use Rattle.catalogue.specs.Runs.{call_answer, step}
+use Rattle.tables.specs.Closings.{closing_leaves, label_answer}
 use Rattle.console.specs.declared.command.Command.{Command}
 use Rattle.console.specs.declared.command.Command.TheVariants as commands
+use Rattle.console.specs.declared.reply.Reply.{Reply}
+use Rattle.console.specs.declared.reply.Reply.TheVariants as replies
 use Rattle.console.specs.Grammar.{parsed}
 
 -- the n that a command sets: 1 to 64
@@ -17,29 +21,37 @@ sets (commands.Admit f t m) = Err 16
 sets (commands.Withdraw f t) = Err 16
 sets (commands.Hold p) = Err 16
 sets (commands.Lift p) = Err 16
+sets (commands.Label f t) = Err 16
 
--- the call that a command makes; to set n again is none
+-- the call that a command makes; to set n again is none, and so is to ask for a label
 abbrev pub call_of : Command → Option (Call Minutes)
 call_of (commands.Size p) = None
 call_of (commands.Admit f t m) = Some (calls.Admit f t (minutes_of m))
 call_of (commands.Withdraw f t) = Some (calls.Withdraw f t)
 call_of (commands.Hold p) = Some (calls.Hold p)
 call_of (commands.Lift p) = Some (calls.Lift p)
+call_of (commands.Label f t) = None
 
-abbrev pub told_by : Meaning Minutes → Option (Call Minutes) → Result (Unit {0}) ℕ
+abbrev pub told_by : Meaning Minutes → Option (Call Minutes) → Result Reply ℕ
 told_by m None = Err 16
-told_by m (Some c) = call_answer minutes_ops m c
+told_by m (Some c) = on_ok (λ _. replies.Done) (call_answer minutes_ops m c)
 
 abbrev pub left_by : Meaning Minutes → Option (Call Minutes) → Meaning Minutes
 left_by m None = m
 left_by m (Some c) = step minutes_ops m c
 
--- what a command answers once n is set, and what it leaves
-abbrev pub executed : Meaning Minutes → Command → Result (Unit {0}) ℕ
-executed m c = told_by m (call_of c)
+-- what a command answers once n is set, with so many cells to work out labels in; what it leaves of
+-- the catalogue, and of the cells
+abbrev pub executed : Meaning Minutes → ℕ → Command → Result Reply ℕ
+executed m cells (commands.Label f t) = on_ok (λ l. replies.Label l) (label_answer minutes_ops m cells f t)
+executed m cells c = told_by m (call_of c)
 
 abbrev pub left : Meaning Minutes → Command → Meaning Minutes
 left m c = left_by m (call_of c)
+
+abbrev pub worked : Meaning Minutes → Command → List Minutes → List Minutes
+worked m (commands.Label f t) old = closing_leaves minutes_ops m (label_answer minutes_ops m (length old) f t) old
+worked m c old = old
 
 -- f of a command; a line that is none keeps its number
 abbrev pub then : {A : Type 0} → Result Command ℕ → (Command → Result A ℕ) → Result A ℕ
@@ -50,13 +62,21 @@ abbrev pub unless_refused : Meaning Minutes → Result Command ℕ → Meaning M
 unless_refused m (Ok c) = left m c
 unless_refused m (Err k) = m
 
+abbrev pub worked_unless_refused : Meaning Minutes → Result Command ℕ → List Minutes → List Minutes
+worked_unless_refused m (Ok c) old = worked m c old
+worked_unless_refused m (Err k) old = old
+
 -- what a line answers before n is set
 abbrev pub opening : List ℕ → Result ℕ ℕ
 opening line = then (parsed line) sets
 
--- what a line answers once n is set, and what it leaves
-abbrev pub obeyed : Meaning Minutes → List ℕ → Result (Unit {0}) ℕ
-obeyed m line = then (parsed line) (executed m)
+-- what a line answers once n is set, with so many cells; what it leaves of the catalogue, and of the
+-- cells
+abbrev pub obeyed : Meaning Minutes → ℕ → List ℕ → Result Reply ℕ
+obeyed m cells line = then (parsed line) (executed m cells)
 
 abbrev pub after : Meaning Minutes → List ℕ → Meaning Minutes
 after m line = unless_refused m (parsed line)
+
+abbrev pub worked_after : Meaning Minutes → List ℕ → List Minutes → List Minutes
+worked_after m line old = worked_unless_refused m (parsed line) old

@@ -9,4 +9,6 @@ pub enum Command {
     Withdraw(u32, u32),
     Hold(u32),
     Lift(u32),
+    // from, to
+    Label(u32, u32),
 }

@@ -5,6 +5,7 @@
 pub mod buffer;
 pub mod command;
 pub mod lines;
+pub mod reply;
 pub mod session;
 #[cfg(test)]
 mod tests;

@@ -26,20 +26,21 @@ fn read(line: &[u8]) -> Option<Command>
         return None;
     }
     match line {
-        [letter, b' ', fields @ ..] => by_letter(*letter, fields),
+        [letter, b' ', fields @ ..] => by_letter(char::from(*letter), fields),
         _ => None,
     }
 }
 
-fn by_letter(letter: u8, fields: &[u8]) -> Option<Command>
+fn by_letter(letter: char, fields: &[u8]) -> Option<Command>
     ensures { result ≡ by_letter letter fields.now }
 {
     match letter {
-        b'n' => number(fields).map(Command::Size),
-        b'a' => three(fields).map(|(from, to, minutes)| Command::Admit(from, to, minutes)),
-        b'w' => two(fields).map(|(from, to)| Command::Withdraw(from, to)),
-        b'h' => number(fields).map(Command::Hold),
-        b'l' => number(fields).map(Command::Lift),
+        'n' => number(fields).map(Command::Size),
+        'a' => three(fields).map(|(from, to, minutes)| Command::Admit(from, to, minutes)),
+        'w' => two(fields).map(|(from, to)| Command::Withdraw(from, to)),
+        'h' => number(fields).map(Command::Hold),
+        'l' => number(fields).map(Command::Lift),
+        'm' => two(fields).map(|(from, to)| Command::Label(from, to)),
         _ => None,
     }
 }

@@ -2,16 +2,21 @@
 use crate::buffer::LineBuffer;
 use crate::command::Command;
 use crate::lines::parse;
-use catalogue::Refusal;
+use crate::reply::Reply;
+use crate::session::execute;
+use catalogue::{Blank, Holding, Ledger, Make, Refusal};
+use labels::{Label, Minutes};
+use paths::Arc;
 
 #[test]
 fn reads_commands(rt: HostRuntime) {
-    let lines: [(&[u8], Command); 6] = [
+    let lines: [(&[u8], Command); 7] = [
         (b"n 3", Command::Size(3)),
         (b"a 0 1 4", Command::Admit(0, 1, 4)),
         (b"w 0 1", Command::Withdraw(0, 1)),
         (b"h 1", Command::Hold(1)),
         (b"l 1", Command::Lift(1)),
+        (b"m 0 2", Command::Label(0, 2)),
         (b"n 4294967295", Command::Size(4294967295)),
     ];
     for (line, command) in lines {
@@ -21,13 +26,16 @@ fn reads_commands(rt: HostRuntime) {
 
 #[test]
 fn refuses_other_lines(rt: HostRuntime) {
-    let lines: [&[u8]; 8] = [
+    let lines: [&[u8]; 11] = [
         b"",
         b"n",
         b"n  3",
         b"n 03",
         b"n 3 ",
         b"a 0 1",
+        b"m 0",
+        b"m 0 1 2",
+        b"m 0 02",
         b"n 4294967296",
         b"x 1",
     ];
@@ -45,4 +53,48 @@ fn collects_a_line(rt: HostRuntime) {
     assert_eq!(rt; parse(buffer.line()), Ok(Command::Hold(1)));
     buffer.clear();
     assert!(rt; buffer.is_empty());
+}
+
+fn told(value: u32) -> Result<Reply, Refusal> {
+    Ok(Reply::Label(Minutes { value }))
+}
+
+#[test]
+fn tells_labels(rt: HostRuntime) -> Result<(), Refusal> {
+    let label = Minutes::NONE;
+    let mut arcs = [Arc {
+        from: 0,
+        to: 0,
+        label,
+    }; 3];
+    let mut top = Holding::<Ledger<Minutes>>::make(Blank {
+        n: 3,
+        arcs: &mut arcs,
+    })?;
+    let mut table = [label; 9];
+    let done = Ok(Reply::Done);
+    let cases = [
+        (Command::Admit(0, 1, 4), done),
+        (Command::Admit(1, 2, 3), done),
+        (Command::Admit(0, 2, 9), done),
+        (Command::Label(0, 2), told(7)),
+        (Command::Label(2, 0), told(4294967295)),
+        (Command::Label(0, 3), Err(Refusal::NoPackage)),
+        (Command::Label(3, 0), Err(Refusal::NoPackage)),
+        (Command::Hold(1), done),
+        (Command::Label(0, 1), told(4294967295)),
+        (Command::Label(0, 2), told(9)),
+        (Command::Lift(1), done),
+        (Command::Label(0, 2), told(7)),
+        (Command::Size(3), Err(Refusal::NotCommand)),
+    ];
+    for (command, answer) in cases {
+        assert_eq!(rt; execute(&mut top, &mut table, command), answer);
+    }
+    let short = &mut table[..8];
+    assert_eq!(rt;
+        execute(&mut top, short, Command::Label(0, 2)),
+        Err(Refusal::ShortBuffer)
+    );
+    Ok(())
 }

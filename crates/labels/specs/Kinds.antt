@@ -1,5 +1,5 @@
 -- The label kinds: their operations, and the labels that words name.
-use Rattle.std.specs.Prelude.{ℕ, ◌+◌, min, Bool, true, false, cond, Some, None, Option, ◌==◌, bit_and, bit_or, nat_lt}
+use Rattle.std.specs.Prelude.{ℕ, ◌+◌, min, Bool, true, false, cond, List, Some, None, Option, ◌==◌, bit_and, bit_or, nat_lt, codes, decimal}
 use Rattle.std.proofs.Common.{arith}
 use Rattle.std.specs.Int.Bits.{and_lt}
 use Rattle.std.proofs.lemmas.Nat.{or_lt}
@@ -58,6 +58,10 @@ minutes_ops = record { none = no_time; whole = at_once; join = sooner; extend = 
 
 abbrev pub minutes_named : ℕ → Option Minutes
 minutes_named w = cond (names_itself w) (Some (minutes_of w)) None
+
+-- as minutes are printed
+abbrev pub minutes_text : Minutes → List ℕ
+minutes_text x = cond (x.value == 4294967295) (codes "none") (decimal x.value)
 
 -- licence: bitwise and, bitwise or
 

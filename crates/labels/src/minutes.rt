@@ -8,6 +8,7 @@ ghost use Rattle.std.proofs.Common.{rules, arith};
 use crate::kinds::Minutes;
 use crate::label::Label;
 use crate::words::is_named;
+use std::fmt;
 
 impl Label for Minutes {
     const NONE: Minutes = Minutes { value: u32::MAX };
@@ -52,5 +53,20 @@ impl Label for Minutes {
     #[tactic(auto, using(crate::specs::Alike::minutes_then))]
     fn from_word(word: u32) -> Option<Minutes> {
         is_named(word).then_some(Minutes { value: word })
+    }
+}
+
+// The number, or `none`.
+impl fmt::Display for Minutes {
+    ghost use Rattle.std.specs.Prelude.{Some};
+    ghost use Rattle.labels.specs.Kinds.{minutes_text};
+
+    ghost output = { λ minutes. Some (minutes_text minutes) };
+
+    fn fmt<W: fmt::Write>(&self, f: &mut fmt::Formatter<W>) -> fmt::Result {
+        match *self {
+            Minutes::NONE => write!(f, "none"),
+            Minutes { value } => write!(f, "{value}"),
+        }
     }
 }
