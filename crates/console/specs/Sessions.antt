@@ -49,9 +49,9 @@ executed m cells c = told_by m (call_of c)
 abbrev pub left : Meaning Minutes → Command → Meaning Minutes
 left m c = left_by m (call_of c)
 
-abbrev pub worked : Meaning Minutes → Command → List Minutes → List Minutes
-worked m (commands.Label f t) old = closing_leaves minutes_ops m (label_answer minutes_ops m (length old) f t) old
-worked m c old = old
+abbrev pub table_left : Meaning Minutes → Command → List Minutes → List Minutes
+table_left m (commands.Label f t) old = closing_leaves minutes_ops m (label_answer minutes_ops m (length old) f t) old
+table_left m c old = old
 
 -- f of a command; a line that is none keeps its number
 abbrev pub then : {A : Type 0} → Result Command ℕ → (Command → Result A ℕ) → Result A ℕ
@@ -62,9 +62,9 @@ abbrev pub unless_refused : Meaning Minutes → Result Command ℕ → Meaning M
 unless_refused m (Ok c) = left m c
 unless_refused m (Err k) = m
 
-abbrev pub worked_unless_refused : Meaning Minutes → Result Command ℕ → List Minutes → List Minutes
-worked_unless_refused m (Ok c) old = worked m c old
-worked_unless_refused m (Err k) old = old
+abbrev pub table_unless_refused : Meaning Minutes → Result Command ℕ → List Minutes → List Minutes
+table_unless_refused m (Ok c) old = table_left m c old
+table_unless_refused m (Err k) old = old
 
 -- what a line answers before n is set
 abbrev pub opening : List ℕ → Result ℕ ℕ
@@ -78,5 +78,5 @@ obeyed m cells line = then (parsed line) (executed m cells)
 abbrev pub after : Meaning Minutes → List ℕ → Meaning Minutes
 after m line = unless_refused m (parsed line)
 
-abbrev pub worked_after : Meaning Minutes → List ℕ → List Minutes → List Minutes
-worked_after m line old = worked_unless_refused m (parsed line) old
+abbrev pub table_after : Meaning Minutes → List ℕ → List Minutes → List Minutes
+table_after m line old = table_unless_refused m (parsed line) old

@@ -1,7 +1,7 @@
 // What a line does: it sets n, makes a call on the catalogue, or asks for the label of a pair.
 ghost use Rattle.std.specs.Prelude.{◌≡◌, length, ok_or};
 ghost use Rattle.catalogue.specs.Refusals.{answer};
-ghost use Rattle.console.specs.Sessions.{opening, sets, call_of, executed, left, worked, obeyed, after, worked_after};
+ghost use Rattle.console.specs.Sessions.{opening, sets, call_of, executed, left, table_left, obeyed, after, table_after};
 
 use crate::command::Command;
 use crate::lines::parse;
@@ -28,7 +28,7 @@ pub fn obey<C: Catalogue<Label = Minutes>>(
 ) -> Result<Reply, Refusal>
     ensures answers { answer result ≡ obeyed (C.Catalogue.meaning catalogue.old) (length table.old) line.now }
     ensures leaves { C.Catalogue.meaning catalogue.new ≡ after (C.Catalogue.meaning catalogue.old) line.now }
-    ensures tables { table.new ≡ worked_after (C.Catalogue.meaning catalogue.old) line.now table.old }
+    ensures tables { table.new ≡ table_after (C.Catalogue.meaning catalogue.old) line.now table.old }
 {
     execute(catalogue, table, parse(line)?)
 }
@@ -52,7 +52,7 @@ pub fn execute<C: Catalogue<Label = Minutes>>(
 ) -> Result<Reply, Refusal>
     ensures answers { answer result ≡ executed (C.Catalogue.meaning catalogue.old) (length table.old) command }
     ensures leaves { C.Catalogue.meaning catalogue.new ≡ left (C.Catalogue.meaning catalogue.old) command }
-    ensures tables { table.new ≡ worked (C.Catalogue.meaning catalogue.old) command table.old }
+    ensures tables { table.new ≡ table_left (C.Catalogue.meaning catalogue.old) command table.old }
 {
     match command {
         Command::Label(from, to) => label_of(catalogue, table, from, to).map(Reply::Label),

@@ -9,7 +9,8 @@ pub enum Reach {
     Yes,
 }
 
-// How long a chain takes; 4294967295 is none.
+// How long a chain takes; 4294967295 is none. In C it is its number.
+#[repr(C)]
 #[derive(Clone, Copy, PartialEq, Eq, Debug)]
 pub struct Minutes {
     pub value: u32,
