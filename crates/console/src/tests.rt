@@ -3,7 +3,7 @@ use crate::buffer::LineBuffer;
 use crate::command::Command;
 use crate::lines::parse;
 use crate::reply::Reply;
-use crate::session::execute;
+use crate::session::obey;
 use catalogue::{Blank, Holding, Ledger, Make, Refusal};
 use labels::{Label, Minutes};
 use paths::Arc;
@@ -60,7 +60,7 @@ fn told(value: u32) -> Result<Reply, Refusal> {
 }
 
 #[test]
-fn tells_labels(rt: HostRuntime) -> Result<(), Refusal> {
+fn answers_lines(rt: HostRuntime) -> Result<(), Refusal> {
     let label = Minutes::NONE;
     let mut arcs = [Arc {
         from: 0,
@@ -73,28 +73,27 @@ fn tells_labels(rt: HostRuntime) -> Result<(), Refusal> {
     })?;
     let mut table = [label; 9];
     let done = Ok(Reply::Done);
-    let cases = [
-        (Command::Admit(0, 1, 4), done),
-        (Command::Admit(1, 2, 3), done),
-        (Command::Admit(0, 2, 9), done),
-        (Command::Label(0, 2), told(7)),
-        (Command::Label(2, 0), told(4294967295)),
-        (Command::Label(0, 3), Err(Refusal::NoPackage)),
-        (Command::Label(3, 0), Err(Refusal::NoPackage)),
-        (Command::Hold(1), done),
-        (Command::Label(0, 1), told(4294967295)),
-        (Command::Label(0, 2), told(9)),
-        (Command::Lift(1), done),
-        (Command::Label(0, 2), told(7)),
-        (Command::Size(3), Err(Refusal::NotCommand)),
+    let lines: [(&[u8], Result<Reply, Refusal>); 15] = [
+        (b"a 0 1 4", done),
+        (b"a 1 2 3", done),
+        (b"a 0 2 9", done),
+        (b"m 0 2", told(7)),
+        (b"m 2 0", told(4294967295)),
+        (b"m 0 3", Err(Refusal::NoPackage)),
+        (b"m 3 0", Err(Refusal::NoPackage)),
+        (b"a 0 0 1", Err(Refusal::EqualEnds)),
+        (b"h 1", done),
+        (b"m 0 1", told(4294967295)),
+        (b"m 0 2", told(9)),
+        (b"l 1", done),
+        (b"m 0 2", told(7)),
+        (b"w 0 2", done),
+        (b"n 3", Err(Refusal::NotCommand)),
     ];
-    for (command, answer) in cases {
-        assert_eq!(rt; execute(&mut top, &mut table, command), answer);
+    for (line, answer) in lines {
+        assert_eq!(rt; obey(&mut top, &mut table, line), answer);
     }
     let short = &mut table[..8];
-    assert_eq!(rt;
-        execute(&mut top, short, Command::Label(0, 2)),
-        Err(Refusal::ShortBuffer)
-    );
+    assert_eq!(rt; obey(&mut top, short, b"m 0 2"), Err(Refusal::ShortBuffer));
     Ok(())
 }
