@@ -1,5 +1,5 @@
 -- Runs of calls that include closings.
-use Rattle.std.specs.Prelude.{ℕ, min, List, [], ◌∷◌, length, Result}
+use Rattle.std.specs.Prelude.{ℕ, min, Bool, false, ◌||◌, List, [], ◌∷◌, length, is_ok, Result}
 use Rattle.labels.specs.Algebra.{Ops}
 use Rattle.catalogue.specs.Refusals.{on_ok}
 use Rattle.catalogue.specs.Meanings.{Meaning}
@@ -38,7 +38,18 @@ module _ {K : Type 0} (o : Ops K) where
   tabled m t (Rounds cells) old = closing_leaves o m (answered m t (Rounds cells)) old
   tabled m t (Eliminate cells) old = closing_leaves o m (answered m t (Eliminate cells)) old
 
-  -- what a list of calls leaves there
+  -- does a call write to the run's spare tables? only a closing by rounds that is taken
+  abbrev pub spares_used : Meaning K → Lengths → Step K → Bool
+  spares_used m t (Alter c) = false
+  spares_used m t (Rounds cells) = is_ok (answered m t (Rounds cells))
+  spares_used m t (Eliminate cells) = false
+
+  -- does one of a list of calls?
+  abbrev pub some_spares_used : Meaning K → Lengths → List (Step K) → Bool
+  some_spares_used m t [] = false
+  some_spares_used m t (c ∷ calls) = spares_used m t c || some_spares_used (reckon o m (alterations (c ∷ []))) t calls
+
+  -- what a list of calls leaves in the label table
   abbrev pub tables : Meaning K → Lengths → List (Step K) → List K → List K
   tables m t [] old = old
   tables m t (c ∷ calls) old = tables (reckon o m (alterations (c ∷ []))) t calls (tabled m t c old)

@@ -1,5 +1,5 @@
 // Both closings of one catalogue. The tables stay apart, as in `by_rounds`.
-ghost use Rattle.std.specs.Prelude.{◌≡◌, length};
+ghost use Rattle.std.specs.Prelude.{◌≡◌, false, is_ok, length};
 ghost use Rattle.catalogue.specs.Refusals.{answer};
 ghost use Rattle.tables.specs.Closings.{rounds_answer, elimination_answer, closing_leaves, Agree};
 
@@ -25,6 +25,7 @@ pub fn close_both<C: Catalogue>(
     ensures elimination { answer result.by_elimination ≡ elimination_answer C.Label.Label.ops (C.Catalogue.meaning catalogue.now) (length second.old) }
     ensures leaves_first { first.new ≡ closing_leaves C.Label.Label.ops (C.Catalogue.meaning catalogue.now) (answer result.by_rounds) first.old }
     ensures leaves_second { second.new ≡ closing_leaves C.Label.Label.ops (C.Catalogue.meaning catalogue.now) (answer result.by_elimination) second.old }
+    ensures spares { is_ok (answer result.by_rounds) ≡ false → (changed.new ≡ changed.old) × (found.new ≡ found.old) }
     ensures agree { Agree (C.Catalogue.meaning catalogue.now).n (answer result.by_rounds) first.new (answer result.by_elimination) second.new }
 {
     Closings {

@@ -1,9 +1,9 @@
 // Runs of calls, closings among them, and what they leave. The tables stay apart, as in
 // `by_rounds`.
-ghost use Rattle.std.specs.Prelude.{◌≡◌, min, [], ◌∷◌, length};
+ghost use Rattle.std.specs.Prelude.{◌≡◌, false, min, is_ok, [], ◌∷◌, length};
 ghost use Rattle.catalogue.specs.Refusals.{answer};
 ghost use Rattle.catalogue.specs.Runs.{reckon};
-ghost use Rattle.runs.specs.Runs.{alterations, answered, tabled, tables, lengths};
+ghost use Rattle.runs.specs.Runs.{alterations, answered, tabled, tables, spares_used, some_spares_used, lengths};
 ghost use Rattle.tables.specs.Closings.{rounds_answer, elimination_answer, closing_leaves};
 
 use crate::step::Step;
@@ -20,6 +20,7 @@ pub fn run<C: Catalogue>(
 )
     ensures reckoned { C.Catalogue.meaning catalogue.new ≡ reckon C.Label.Label.ops (C.Catalogue.meaning catalogue.old) (alterations calls.now) }
     ensures leaves { table.new ≡ tables C.Label.Label.ops (C.Catalogue.meaning catalogue.old) (lengths table.old changed.old found.old) calls.now table.old }
+    ensures spares { some_spares_used C.Label.Label.ops (C.Catalogue.meaning catalogue.old) (lengths table.old changed.old found.old) calls.now ≡ false → (changed.new ≡ changed.old) × (found.new ≡ found.old) }
 {
     for call in calls {
         let _ = make_call(catalogue, *call, table, changed, found);
@@ -37,6 +38,7 @@ pub fn make_call<C: Catalogue>(
     ensures answers { answer result ≡ answered C.Label.Label.ops (C.Catalogue.meaning catalogue.old) (lengths table.old changed.old found.old) call }
     ensures reckoned { C.Catalogue.meaning catalogue.new ≡ reckon C.Label.Label.ops (C.Catalogue.meaning catalogue.old) (alterations (call ∷ [])) }
     ensures leaves { table.new ≡ tabled C.Label.Label.ops (C.Catalogue.meaning catalogue.old) (lengths table.old changed.old found.old) call table.old }
+    ensures spares { spares_used C.Label.Label.ops (C.Catalogue.meaning catalogue.old) (lengths table.old changed.old found.old) call ≡ false → (changed.new ≡ changed.old) × (found.new ≡ found.old) }
 {
     match call {
         Step::Alter(change) => alter(catalogue, change),
@@ -57,6 +59,7 @@ fn rounds_within<C: Catalogue>(
 ) -> Result<usize, Refusal>
     ensures answers { answer result ≡ rounds_answer C.Label.Label.ops (C.Catalogue.meaning catalogue.now) (min cells (length table.old)) (min cells (length changed.old)) (min cells (length found.old)) }
     ensures leaves { table.new ≡ closing_leaves C.Label.Label.ops (C.Catalogue.meaning catalogue.now) (answer result) table.old }
+    ensures spares { is_ok (answer result) ≡ false → (changed.new ≡ changed.old) × (found.new ≡ found.old) }
 {
     let in_table = cells.min(table.len());
     let in_changed = cells.min(changed.len());

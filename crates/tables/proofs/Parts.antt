@@ -20,6 +20,10 @@ long_enough n k refused x answer shorter is ok = go (dec_le (n * n) k) refused s
     go (no gt) true f e = absurd (true≢false (sym ok ∙ ap is_ok e))
     go (no gt) false f e = absurd (true≢false (sym (f (lt-ltb k (n * n) (omega arith)))))
 
+-- a list is as it was where its first so many items are
+pub part_kept : {A : Type 0} (k : ℕ) (old part : List A) → part ≡ take k old → part ++ drop k old ≡ old
+part_kept k old part is = ap (λ p. p ++ drop k old) is ∙ take-append-drop k old
+
 module _ {K : Type 0} (o : Ops K) (m : Meaning K) where
   part_left : {A : Type 0} (answer : Result A ℕ) (k : ℕ) (old part : List K) → k ≤ length old → (is_ok answer ≡ true → m.n * m.n ≤ k)
       → part ≡ closing_leaves o m answer (take k old) → part ++ drop k old ≡ closing_leaves o m answer old

@@ -1,5 +1,5 @@
 -- What is asked of a catalogue once it is made and a run is over.
-use Rattle.std.specs.Prelude.{◌≡◌, ℕ, List, Ok, Err, Option, Result}
+use Rattle.std.specs.Prelude.{◌≡◌, ℕ, Bool, false, List, length, is_ok, Ok, Err, Option, Result}
 use Rattle.labels.specs.Algebra.{Ops}
 use Rattle.catalogue.specs.declared.refusal.Refusal.{Refusal}
 use Rattle.catalogue.specs.Refusals.{number, answer, on_ok}
@@ -8,28 +8,58 @@ use Rattle.catalogue.specs.Makings.{Making, first_meaning}
 use Rattle.catalogue.specs.declared.call.Call.{Call}
 use Rattle.catalogue.specs.Runs.{reckon}
 use Rattle.runs.specs.declared.step.Step.{Step}
-use Rattle.tables.specs.Closings.{rounds_answer, elimination_answer, label_answer, Agree}
-use Rattle.runs.specs.Runs.{Lengths, alterations}
+use Rattle.tables.specs.Closings.{rounds_answer, elimination_answer, label_answer, closing_leaves, Agree}
+use Rattle.runs.specs.Runs.{Lengths, lengths, alterations, tables, some_spares_used}
 use Rattle.runs.specs.declared.agreement.Closings.{Closings}
 
--- what both closings of a catalogue that means m answer, over tables of these lengths and a second one; if both accept, they leave the same labels
-pub record Told {K : Type 0} (o : Ops K) (m : Meaning K) (t : Lengths) (second : ℕ) (r : Closings) (left left' : List K) : Type 0 where
-  pub rounds : answer r.by_rounds ≡ rounds_answer o m t.table t.changed t.found
-  pub elimination : answer r.by_elimination ≡ elimination_answer o m second
-  pub agree : Agree m.n (answer r.by_rounds) left (answer r.by_elimination) left'
+-- the tables that a run and two closings are lent
+pub record Tables (K : Type 0) : Type 0 where
+  pub table : List K
+  pub changed : List K
+  pub found : List K
+  pub second : List K
+
+abbrev pub lent : {K : Type 0} → List K → List K → List K → List K → Tables K
+lent table changed found second = record { table = table; changed = changed; found = found; second = second }
+
+abbrev pub sizes : {K : Type 0} → Tables K → Lengths
+sizes t = lengths t.table t.changed t.found
+
+-- what the steps leave of a meaning
+abbrev pub reckoned : {K : Type 0} → Ops K → Meaning K → List (Step K) → Meaning K
+reckoned o m steps = reckon o m (alterations steps)
+
+-- what both closings answer after the steps, and what they leave; if both accept, they leave the same labels
+pub record Told {K : Type 0} (o : Ops K) (m : Meaning K) (steps : List (Step K)) (old new : Tables K) (r : Closings) : Type 0 where
+  pub rounds : answer r.by_rounds ≡ rounds_answer o (reckoned o m steps) (length old.table) (length old.changed) (length old.found)
+  pub elimination : answer r.by_elimination ≡ elimination_answer o (reckoned o m steps) (length old.second)
+  pub agree : Agree (reckoned o m steps).n (answer r.by_rounds) new.table (answer r.by_elimination) new.second
+  pub table : new.table ≡ closing_leaves o (reckoned o m steps) (answer r.by_rounds) (tables o m (sizes old) steps old.table)
+  pub second : new.second ≡ closing_leaves o (reckoned o m steps) (answer r.by_elimination) old.second
+  pub spares : some_spares_used o m (sizes old) steps ≡ false → is_ok (answer r.by_rounds) ≡ false → (new.changed ≡ old.changed) × (new.found ≡ old.found)
 
 module _ {K : Type 0} (o : Ops K) where
-  -- told of what is reckoned from that first meaning and the calls, or refused with its number
-  abbrev pub ToldFrom : Result (Meaning K) ℕ → List (Step K) → Lengths → ℕ → List K → List K → Result Closings Refusal → Type 0
-  ToldFrom (Ok m) steps t second left left' (Ok r) = Told o (reckon o m (alterations steps)) t second r left left'
-  ToldFrom (Ok m) steps t second left left' (Err e) = ⊥
-  ToldFrom (Err k) steps t second left left' (Ok r) = ⊥
-  ToldFrom (Err k) steps t second left left' (Err e) = number e ≡ k
+  -- told from that first meaning on, or refused with its number, and then every table is as it was
+  abbrev pub ToldFrom : Result (Meaning K) ℕ → List (Step K) → Tables K → Tables K → Result Closings Refusal → Type 0
+  ToldFrom (Ok m) steps old new (Ok r) = Told o m steps old new r
+  ToldFrom (Ok m) steps old new (Err e) = ⊥
+  ToldFrom (Err k) steps old new (Ok r) = ⊥
+  ToldFrom (Err k) steps old new (Err e) = (number e ≡ k) × (new ≡ old)
 
-  -- the label of a pair, of what is reckoned from that first meaning and the calls
+  -- the label of a pair after the steps, from that first meaning on
   abbrev pub label_from : Result (Meaning K) ℕ → List (Step K) → ℕ → ℕ → ℕ → Result K ℕ
-  label_from (Ok m) steps cells from to = label_answer o (reckon o m (alterations steps)) cells from to
+  label_from (Ok m) steps cells from to = label_answer o (reckoned o m steps) cells from to
   label_from (Err k) steps cells from to = Err k
+
+  -- what that leaves of the label table
+  abbrev pub label_leaves : Result (Meaning K) ℕ → List (Step K) → Lengths → ℕ → ℕ → List K → List K
+  label_leaves (Ok m) steps t from to old = closing_leaves o (reckoned o m steps) (label_answer o (reckoned o m steps) t.table from to) (tables o m t steps old)
+  label_leaves (Err k) steps t from to old = old
+
+  -- do the steps write to the spare tables?
+  abbrev pub spares_from : Result (Meaning K) ℕ → List (Step K) → Lengths → Bool
+  spares_from (Ok m) steps t = some_spares_used o m t steps
+  spares_from (Err k) steps t = false
 
 -- a question about what is reckoned from a making and the calls
 abbrev pub asked : {K A : Type 0} → Ops K → (ℕ → Option K) → Making → List (Call K) → (Meaning K → A) → Result A ℕ

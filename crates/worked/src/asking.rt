@@ -1,10 +1,8 @@
 // What a catalogue tells once a run is over. The tables stay apart, as in `by_rounds`.
-ghost use Rattle.std.specs.Prelude.{◌≡◌, length};
+ghost use Rattle.std.specs.Prelude.{◌≡◌, false, length, Ok};
 ghost use Rattle.catalogue.specs.Refusals.{answer};
-ghost use Rattle.catalogue.specs.Runs.{reckon};
-ghost use Rattle.tables.specs.Closings.{closing_leaves, label_answer};
-ghost use Rattle.runs.specs.Runs.{alterations, lengths, tables};
-ghost use Rattle.worked.specs.Asked.{Told};
+ghost use Rattle.runs.specs.Runs.{lengths};
+ghost use Rattle.worked.specs.Asked.{Told, lent, reckoned, label_from, label_leaves, spares_from};
 
 use catalogue::{Catalogue, Refusal};
 use closing::label_of;
@@ -20,9 +18,8 @@ pub fn close_after<C: Catalogue>(
     found: &mut [C::Label],
     second: &mut [C::Label],
 ) -> Closings
-    ensures answers { Told C.Label.Label.ops (reckon C.Label.Label.ops (C.Catalogue.meaning catalogue.old) (alterations steps.now)) (lengths table.old changed.old found.old) (length second.old) result table.new second.new }
-    ensures leaves { table.new ≡ closing_leaves C.Label.Label.ops (reckon C.Label.Label.ops (C.Catalogue.meaning catalogue.old) (alterations steps.now)) (answer result.by_rounds) (tables C.Label.Label.ops (C.Catalogue.meaning catalogue.old) (lengths table.old changed.old found.old) steps.now table.old) }
-    ensures leaves_second { second.new ≡ closing_leaves C.Label.Label.ops (reckon C.Label.Label.ops (C.Catalogue.meaning catalogue.old) (alterations steps.now)) (answer result.by_elimination) second.old }
+    ensures alters { C.Catalogue.meaning catalogue.new ≡ reckoned C.Label.Label.ops (C.Catalogue.meaning catalogue.old) steps.now }
+    ensures tells { Told C.Label.Label.ops (C.Catalogue.meaning catalogue.old) steps.now (lent table.old changed.old found.old second.old) (lent table.new changed.new found.new second.new) result }
 {
     run(catalogue, steps, table, changed, found);
     close_both(catalogue, table, changed, found, second)
@@ -39,8 +36,10 @@ pub fn label_after<C: Catalogue>(
     from: u32,
     to: u32,
 ) -> Result<C::Label, Refusal>
-    ensures answers { answer result ≡ label_answer C.Label.Label.ops (reckon C.Label.Label.ops (C.Catalogue.meaning catalogue.old) (alterations steps.now)) (length table.old) from to }
-    ensures leaves { table.new ≡ closing_leaves C.Label.Label.ops (reckon C.Label.Label.ops (C.Catalogue.meaning catalogue.old) (alterations steps.now)) (answer result) (tables C.Label.Label.ops (C.Catalogue.meaning catalogue.old) (lengths table.old changed.old found.old) steps.now table.old) }
+    ensures alters { C.Catalogue.meaning catalogue.new ≡ reckoned C.Label.Label.ops (C.Catalogue.meaning catalogue.old) steps.now }
+    ensures answers { answer result ≡ label_from C.Label.Label.ops (Ok (C.Catalogue.meaning catalogue.old)) steps.now (length table.old) from to }
+    ensures leaves { table.new ≡ label_leaves C.Label.Label.ops (Ok (C.Catalogue.meaning catalogue.old)) steps.now (lengths table.old changed.old found.old) from to table.old }
+    ensures spares { spares_from C.Label.Label.ops (Ok (C.Catalogue.meaning catalogue.old)) steps.now (lengths table.old changed.old found.old) ≡ false → (changed.new ≡ changed.old) × (found.new ≡ found.old) }
 {
     run(catalogue, steps, table, changed, found);
     label_of(catalogue, table, from, to)

@@ -19,33 +19,45 @@ pub fn label_of_five(from: u32, to: u32) -> Result<Minutes, Refusal>
     ensures answers { answer result ≡ label_from minutes_ops (first_meaning minutes_ops minutes_named five) (map Alter (six minutes_of)) 25 from to }
     ensures cases { WorkedCases }
 {
+    label_in_five(&six_steps(), from, to)
+}
+
+// The label of a pair of five packages after these steps.
+fn label_in_five(steps: &[Step<Minutes>], from: u32, to: u32) -> Result<Minutes, Refusal>
+    ensures { answer result ≡ label_from minutes_ops (first_meaning minutes_ops minutes_named five) steps.now 25 from to }
+{
     let label = Minutes::NONE;
     let mut arcs = [Arc {
         from: 0,
         to: 0,
         label,
     }; 8];
-    let steps = [
-        admit(0, 1, 4),
-        admit(1, 2, 3),
-        admit(0, 2, 9),
-        admit(2, 3, 1),
-        admit(3, 2, 2),
-        admit(4, 0, 5),
-    ];
     let mut table = [label; 25];
     let mut changed = [label; 25];
     let mut found = [label; 25];
     label_in_ledger(
         5,
         &mut arcs,
-        &steps,
+        steps,
         &mut table,
         &mut changed,
         &mut found,
         from,
         to,
     )
+}
+
+fn six_steps() -> [Step<Minutes>; 6]
+    ensures { result ≡ map Alter (six minutes_of) }
+{
+    [
+        admit(0, 1, 4),
+        admit(1, 2, 3),
+        admit(0, 2, 9),
+        admit(2, 3, 1),
+        admit(3, 2, 2),
+        admit(4, 0, 5),
+    ]
 }
 
 fn admit(from: u32, to: u32, value: u32) -> Step<Minutes>

@@ -1,10 +1,10 @@
 // Each make and a stack of four layers, from the making on. Each is `close_made` or `label_made` at
 // its type, so that a contract names the making. The tables stay apart, as in `by_rounds`.
-ghost use Rattle.std.specs.Prelude.{◌≡◌, length};
+ghost use Rattle.std.specs.Prelude.{◌≡◌, false, length};
 ghost use Rattle.catalogue.specs.Refusals.{answer};
 ghost use Rattle.catalogue.specs.Makings.{ledger_of, sheet_of, turned_over, holding_over, first_meaning};
 ghost use Rattle.runs.specs.Runs.{lengths};
-ghost use Rattle.worked.specs.Asked.{ToldFrom, label_from};
+ghost use Rattle.worked.specs.Asked.{ToldFrom, lent, label_from, label_leaves, spares_from};
 
 use crate::asking::{close_after, label_after};
 use catalogue::{Blank, Holding, Ledger, Make, Refusal, Sheet, Turned};
@@ -21,7 +21,7 @@ pub fn close_made<S, M: Make<S> + Drop>(
     found: &mut [M::Label],
     second: &mut [M::Label],
 ) -> Result<Closings, Refusal>
-    ensures { ToldFrom M.Label.Label.ops (M.Make.first source) steps.now (lengths table.old changed.old found.old) (length second.old) table.new second.new result }
+    ensures { ToldFrom M.Label.Label.ops (M.Make.first source) steps.now (lent table.old changed.old found.old second.old) (lent table.new changed.new found.new second.new) result }
 {
     let mut made = M::make(source)?;
     Ok(close_after(&mut made, steps, table, changed, found, second))
@@ -37,7 +37,9 @@ pub fn label_made<S, M: Make<S> + Drop>(
     from: u32,
     to: u32,
 ) -> Result<M::Label, Refusal>
-    ensures { answer result ≡ label_from M.Label.Label.ops (M.Make.first source) steps.now (length table.old) from to }
+    ensures answers { answer result ≡ label_from M.Label.Label.ops (M.Make.first source) steps.now (length table.old) from to }
+    ensures leaves { table.new ≡ label_leaves M.Label.Label.ops (M.Make.first source) steps.now (lengths table.old changed.old found.old) from to table.old }
+    ensures spares { spares_from M.Label.Label.ops (M.Make.first source) steps.now (lengths table.old changed.old found.old) ≡ false → (changed.new ≡ changed.old) × (found.new ≡ found.old) }
 {
     let mut made = M::make(source)?;
     label_after(&mut made, steps, table, changed, found, from, to)
@@ -52,7 +54,7 @@ pub fn close_ledger<K: Label>(
     found: &mut [K],
     second: &mut [K],
 ) -> Result<Closings, Refusal>
-    ensures { ToldFrom K.Label.ops (first_meaning K.Label.ops K.Label.named (ledger_of n (length arcs.old))) steps.now (lengths table.old changed.old found.old) (length second.old) table.new second.new result }
+    ensures { ToldFrom K.Label.ops (first_meaning K.Label.ops K.Label.named (ledger_of n (length arcs.old))) steps.now (lent table.old changed.old found.old second.old) (lent table.new changed.new found.new second.new) result }
 {
     close_made::<_, Ledger<K>>(Blank { n, arcs }, steps, table, changed, found, second)
 }
@@ -65,7 +67,7 @@ pub fn close_sheet<K: Label>(
     found: &mut [K],
     second: &mut [K],
 ) -> Result<Closings, Refusal>
-    ensures { ToldFrom K.Label.ops (first_meaning K.Label.ops K.Label.named (sheet_of bytes.now)) steps.now (lengths table.old changed.old found.old) (length second.old) table.new second.new result }
+    ensures { ToldFrom K.Label.ops (first_meaning K.Label.ops K.Label.named (sheet_of bytes.now)) steps.now (lent table.old changed.old found.old second.old) (lent table.new changed.new found.new second.new) result }
 {
     close_made::<_, Sheet<K>>(bytes, steps, table, changed, found, second)
 }
@@ -79,7 +81,7 @@ pub fn close_four_layers<K: Label>(
     found: &mut [K],
     second: &mut [K],
 ) -> Result<Closings, Refusal>
-    ensures { ToldFrom K.Label.ops (first_meaning K.Label.ops K.Label.named (holding_over (turned_over (holding_over (turned_over (ledger_of n (length arcs.old))))))) steps.now (lengths table.old changed.old found.old) (length second.old) table.new second.new result }
+    ensures { ToldFrom K.Label.ops (first_meaning K.Label.ops K.Label.named (holding_over (turned_over (holding_over (turned_over (ledger_of n (length arcs.old))))))) steps.now (lent table.old changed.old found.old second.old) (lent table.new changed.new found.new second.new) result }
 {
     close_made::<_, Holding<Turned<Holding<Turned<Ledger<K>>>>>>(
         Blank { n, arcs },
@@ -101,7 +103,9 @@ pub fn label_in_ledger<K: Label>(
     from: u32,
     to: u32,
 ) -> Result<K, Refusal>
-    ensures { answer result ≡ label_from K.Label.ops (first_meaning K.Label.ops K.Label.named (ledger_of n (length arcs.old))) steps.now (length table.old) from to }
+    ensures answers { answer result ≡ label_from K.Label.ops (first_meaning K.Label.ops K.Label.named (ledger_of n (length arcs.old))) steps.now (length table.old) from to }
+    ensures leaves { table.new ≡ label_leaves K.Label.ops (first_meaning K.Label.ops K.Label.named (ledger_of n (length arcs.old))) steps.now (lengths table.old changed.old found.old) from to table.old }
+    ensures spares { spares_from K.Label.ops (first_meaning K.Label.ops K.Label.named (ledger_of n (length arcs.old))) steps.now (lengths table.old changed.old found.old) ≡ false → (changed.new ≡ changed.old) × (found.new ≡ found.old) }
 {
     label_made::<_, Ledger<K>>(Blank { n, arcs }, steps, table, changed, found, from, to)
 }
