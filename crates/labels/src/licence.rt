@@ -2,7 +2,6 @@
 // each of its arcs brings.
 ghost use Rattle.std.specs.Prelude.{◌≡◌};
 ghost use Rattle.labels.specs.Kinds.{licence_ops, licence_named, no_licence, free};
-ghost use Rattle.labels.specs.Alike.{licence_same, licence_read};
 ghost use Rattle.labels.specs.Lawful.{licence_laws, licence_absorbs, licence_exact, licence_unnamed};
 ghost use Rattle.std.proofs.Common.{rules, arith};
 
