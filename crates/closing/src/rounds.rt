@@ -1,9 +1,8 @@
 // Closing by rounds: each round extends by one arc what the round before it changed.
 ghost use Rattle.std.specs.Prelude.{◌≡◌, ℕ, ◌+◌, ◌*◌, ◌<◌, ◌≤◌, true, false, not, length, take, is_ok, if◌then◌else◌, Ok};
 ghost use Rattle.paths.specs.Chains.{L};
-ghost use Rattle.paths.specs.Tables.{cell, Shows, LeastStill, rounds_made};
+ghost use Rattle.paths.specs.Tables.{cell, Shows, LeastStill, before, rounds_made};
 ghost use Rattle.paths.specs.Closures.{Closure};
-ghost use Rattle.paths.proofs.Steps.{before};
 ghost use Rattle.catalogue.specs.Refusals.{answer};
 ghost use Rattle.catalogue.specs.Meanings.{in_force};
 ghost use Rattle.tables.specs.Closings.{labels, rounds_answer, closing_leaves};

@@ -1,7 +1,8 @@
 -- The laws of a join over a list.
 use Rattle.std.proofs.Common.{◌≡◌, List, [], ◌∷◌, ◌++◌, map, sym, refl, ap, ◌∙◌, ap₂, inl, inr}
+use Rattle.std.specs.List.{flat_map}
 use Rattle.labels.specs.Algebra.{Ops, Laws}
-use Rattle.paths.specs.Chains.{flat, Mem, join_over}
+use Rattle.paths.specs.Chains.{Mem, join_over}
 
 module _ {K : Type 0} (o : Ops K) (laws : Laws o) where
   pub none_join : (a : K) → o.join a o.none ≡ a
@@ -39,6 +40,6 @@ module _ {K : Type 0} (o : Ops K) (laws : Laws o) where
     over_map f g [] = refl
     over_map f g (x ∷ xs) = ap (o.join (f (g x))) (over_map f g xs)
 
-    pub over_flat : (f : B → K) (g : A → List B) (xs : List A) → join_over o f (flat g xs) ≡ join_over o (λ x. join_over o f (g x)) xs
-    over_flat f g [] = refl
-    over_flat f g (x ∷ xs) = over_append f (g x) (flat g xs) ∙ ap (o.join (join_over o f (g x))) (over_flat f g xs)
+    pub over_flat_map : (f : B → K) (g : A → List B) (xs : List A) → join_over o f (flat_map g xs) ≡ join_over o (λ x. join_over o f (g x)) xs
+    over_flat_map f g [] = refl
+    over_flat_map f g (x ∷ xs) = over_append f (g x) (flat_map g xs) ∙ ap (o.join (join_over o f (g x))) (over_flat_map f g xs)

@@ -1,7 +1,8 @@
 -- What the enumeration of chains holds.
 use Rattle.std.proofs.Common.{◌≡◌, ℕ, zero, suc, ◌<◌, ◌≤◌, Bool, true, false, cond, eqb, ◌⊎◌, List, [], ◌∷◌, ◌++◌, map, length, sym, refl, ap, subst, inl, inr, arith, eq-eqb, eqb-true}
 use native.Mathlib.Decide.{dec_le}
-use Rattle.paths.specs.Chains.{Arc, flat, Mem, chains, chains_upto, IsChain}
+use Rattle.std.specs.List.{flat_map}
+use Rattle.paths.specs.Chains.{Arc, Mem, chains, chains_upto, IsChain}
 
 module _ {A : Type 0} where
   pub mem_left : (x : A) (xs ys : List A) → Mem x xs → Mem x (xs ++ ys)
@@ -33,16 +34,16 @@ module _ {A B : Type 0} where
   of_map f y (x ∷ xs) (inl e) = (x, inl refl, e)
   of_map f y (x ∷ xs) (inr m) = let r = of_map f y xs m in (r.0, inr r.1, r.2)
 
-  pub mem_flat : (g : A → List B) (y : B) (x : A) (xs : List A) → Mem x xs → Mem y (g x) → Mem y (flat g xs)
-  mem_flat g y x [] m h = elim m [ ]
-  mem_flat g y x (z ∷ xs) (inl e) h = mem_left y (g z) (flat g xs) (subst (λ w. Mem y (g w)) e h)
-  mem_flat g y x (z ∷ xs) (inr m) h = mem_right y (g z) (flat g xs) (mem_flat g y x xs m h)
+  pub mem_flat_map : (g : A → List B) (y : B) (x : A) (xs : List A) → Mem x xs → Mem y (g x) → Mem y (flat_map g xs)
+  mem_flat_map g y x [] m h = elim m [ ]
+  mem_flat_map g y x (z ∷ xs) (inl e) h = mem_left y (g z) (flat_map g xs) (subst (λ w. Mem y (g w)) e h)
+  mem_flat_map g y x (z ∷ xs) (inr m) h = mem_right y (g z) (flat_map g xs) (mem_flat_map g y x xs m h)
 
-  pub of_flat : (g : A → List B) (y : B) (xs : List A) → Mem y (flat g xs) → (x : A) × Mem x xs × Mem y (g x)
-  of_flat g y [] m = elim m [ ]
-  of_flat g y (x ∷ xs) m = go (mem_append y (g x) (flat g xs) m) (λ h. of_flat g y xs h)
+  pub of_flat_map : (g : A → List B) (y : B) (xs : List A) → Mem y (flat_map g xs) → (x : A) × Mem x xs × Mem y (g x)
+  of_flat_map g y [] m = elim m [ ]
+  of_flat_map g y (x ∷ xs) m = go (mem_append y (g x) (flat_map g xs) m) (λ h. of_flat_map g y xs h)
     where
-      go : Mem y (g x) ⊎ Mem y (flat g xs) → (Mem y (flat g xs) → (z : A) × Mem z xs × Mem y (g z)) → (z : A) × Mem z (x ∷ xs) × Mem y (g z)
+      go : Mem y (g x) ⊎ Mem y (flat_map g xs) → (Mem y (flat_map g xs) → (z : A) × Mem z xs × Mem y (g z)) → (z : A) × Mem z (x ∷ xs) × Mem y (g z)
       go (inl h) more = (x, inl refl, h)
       go (inr h) more = let r = more h in (r.0, inr r.1, r.2)
 
@@ -57,7 +58,7 @@ module _ {K : Type 0} (arcs : List (Arc K)) where
   pub in_chains : (c : List (Arc K)) (i j : ℕ) → IsChain arcs i j c → Mem c (chains arcs (length c) i j)
   in_chains [] i j e = mem_cond (eqb i j) [] ([] ∷ []) (eq-eqb i j e) (inl refl)
   in_chains (a ∷ c) i j h =
-      mem_flat _ (a ∷ c) a arcs h.0
+      mem_flat_map _ (a ∷ c) a arcs h.0
       (mem_cond (eqb a.from i) (a ∷ c) _ (eq-eqb a.from i h.1) (mem_map (λ d. a ∷ d) c _ (in_chains c a.to j h.2)))
 
   pub of_chains : (m : ℕ) (i j : ℕ) (c : List (Arc K)) → Mem c (chains arcs m i j) → (length c ≡ m) × IsChain arcs i j c
@@ -66,7 +67,7 @@ module _ {K : Type 0} (arcs : List (Arc K)) where
       go : (eqb i j ≡ true) × Mem c ([] ∷ []) → (length c ≡ zero) × IsChain arcs i j c
       go r = elim r.1 [ inl e ↦ subst (λ d. (length d ≡ zero) × IsChain arcs i j d) (sym e) (refl, eqb-true i j r.0) | inr n ↦ elim n [ ] ]
   of_chains (suc m) i j c h =
-      let r = of_flat _ c arcs h in
+      let r = of_flat_map _ c arcs h in
       let a = r.0 in
       let s = of_cond (eqb a.from i) c (map (λ d. a ∷ d) (chains arcs m a.to j)) r.2 in
       let t = of_map (λ d. a ∷ d) c (chains arcs m a.to j) s.1 in

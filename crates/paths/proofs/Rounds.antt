@@ -2,7 +2,8 @@
 use Rattle.std.proofs.Common.{◌≡◌, ℕ, suc, ◌<◌, List, sym, ap, ◌∙◌}
 use Rattle.labels.specs.Algebra.{Ops, Laws}
 use Rattle.paths.specs.Chains.{Arc, Mem, L}
-use Rattle.paths.proofs.Steps.{unit, before, stay, L_step, before_cong, before_join}
+use Rattle.paths.specs.Tables.{before}
+use Rattle.paths.proofs.Steps.{unit, stay, L_step, before_cong, before_join}
 
 module _ {K : Type 0} (o : Ops K) (laws : Laws o) (arcs : List (Arc K)) where
   -- D is what the round to m + 1 added, or more: join(L(m), D) = L(m + 1)

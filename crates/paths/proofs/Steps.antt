@@ -3,7 +3,8 @@ use Rattle.std.proofs.Common.{◌≡◌, ℕ, zero, suc, ◌<◌, ◌≤◌, Boo
 use native.Mathlib.Decide.{le_ind}
 use Rattle.labels.specs.Algebra.{Ops, Laws}
 use Rattle.paths.specs.Chains.{Arc, Mem, join_over, chains, chains_upto, label_of, L}
-use Rattle.paths.proofs.Joins.{none_join, over_append, over_cong, over_join, extend_over, over_map, over_flat}
+use Rattle.paths.specs.Tables.{before}
+use Rattle.paths.proofs.Joins.{none_join, over_append, over_cong, over_join, extend_over, over_map, over_flat_map}
 
 -- the join over the chains of exactly m arcs
 abbrev pub just : {K : Type 0} → Ops K → List (Arc K) → ℕ → ℕ → ℕ → K
@@ -12,10 +13,6 @@ just o arcs m i j = join_over o (label_of o) (chains arcs m i j)
 -- whole on the diagonal
 abbrev pub unit : {K : Type 0} → Ops K → ℕ → ℕ → K
 unit o i j = cond (eqb i j) o.whole o.none
-
--- a table with one arc put before each of its ways
-abbrev pub before : {K : Type 0} → Ops K → List (Arc K) → (ℕ → ℕ → K) → ℕ → ℕ → K
-before o arcs X i j = join_over o (λ a. cond (eqb a.from i) (o.extend a.label (X a.to j)) o.none) arcs
 
 -- nothing, or a chain of 1 to m arcs
 abbrev pub stay : {K : Type 0} → Ops K → List (Arc K) → ℕ → ℕ → ℕ → K
@@ -36,7 +33,7 @@ module _ {K : Type 0} (o : Ops K) (laws : Laws o) (arcs : List (Arc K)) where
 
   pub just_suc : (m i j : ℕ) → just o arcs (suc m) i j ≡ before o arcs (just o arcs m) i j
   just_suc m i j =
-      over_flat o laws (label_of o) (λ a. cond (eqb a.from i) (map (λ c. a ∷ c) (chains arcs m a.to j)) []) arcs
+      over_flat_map o laws (label_of o) (λ a. cond (eqb a.from i) (map (λ c. a ∷ c) (chains arcs m a.to j)) []) arcs
       ∙ over_cong o laws _ _ arcs (λ a _. one_arc a (chains arcs m a.to j) (eqb a.from i))
 
   pub before_cong : (X Y : ℕ → ℕ → K) (i j : ℕ) → ((a : Arc K) → Mem a arcs → X a.to j ≡ Y a.to j) → before o arcs X i j ≡ before o arcs Y i j

@@ -1,12 +1,13 @@
 -- Elimination: the join over the chains whose inner packages are below k, for k from 0 to n.
 use Rattle.std.proofs.Common.{◌≡◌, ℕ, suc, ◌<◌, ◌≤◌, ◌⊎◌, List, [], ◌∷◌, ◌++◌, map, length, sym, refl, ap, ◌∙◌, subst, ap₂, inl, inr, arith, length-append}
 use native.Mathlib.Decide.{dec_lt}
+use Rattle.std.specs.List.{flat_map}
 use Rattle.labels.specs.Algebra.{Ops, Laws, Absorbs}
-use Rattle.paths.specs.Chains.{Arc, flat, Mem, join_over, chains_upto, label_of, L, IsChain}
+use Rattle.paths.specs.Chains.{Arc, Mem, join_over, chains_upto, label_of, L, IsChain}
 use Rattle.paths.specs.Tables.{through}
-use Rattle.paths.proofs.Joins.{over_append, over_cong, over_flat, over_map, extend_over, over_extend}
+use Rattle.paths.proofs.Joins.{over_append, over_cong, over_flat_map, over_map, extend_over, over_extend}
 use Rattle.paths.proofs.Order.{Under, under_trans, under_both, under_left, under_right, join_under, extend_left, extend_right, extend_under, over_least, over_upper}
-use Rattle.paths.proofs.Members.{in_chains_upto, of_chains_upto, mem_append, of_flat, of_map}
+use Rattle.paths.proofs.Members.{in_chains_upto, of_chains_upto, mem_append, of_flat_map, of_map}
 use Rattle.paths.proofs.Cut.{chain_under}
 
 -- every package of the chain but the first and the last is below k
@@ -63,9 +64,9 @@ module _ {K : Type 0} (o : Ops K) (laws : Laws o) where
   label_append (a ∷ x) y = ap (o.extend a.label) (label_append x y) ∙ sym (laws.extend_assoc a.label (label_of o x) (label_of o y))
 
   -- the join over all x before all y
-  over_product : (xs ys : List (List (Arc K))) → join_over o (label_of o) (flat (λ x. map (λ y. x ++ y) ys) xs) ≡ o.extend (join_over o (label_of o) xs) (join_over o (label_of o) ys)
+  over_product : (xs ys : List (List (Arc K))) → join_over o (label_of o) (flat_map (λ x. map (λ y. x ++ y) ys) xs) ≡ o.extend (join_over o (label_of o) xs) (join_over o (label_of o) ys)
   over_product xs ys =
-      over_flat o laws (label_of o) (λ x. map (λ y. x ++ y) ys) xs
+      over_flat_map o laws (label_of o) (λ x. map (λ y. x ++ y) ys) xs
       ∙ over_cong o laws _ _ xs (λ x _.
       over_map o laws (label_of o) (λ y. x ++ y) ys
       ∙ over_cong o laws _ _ ys (λ y _. label_append x y)
@@ -150,16 +151,16 @@ module _ {K : Type 0} (o : Ops K) (laws : Laws o) where
           let p = stage i k in
           let q = stage k j in
           record {
-            cs = s.cs ++ flat (λ x. map (λ y. x ++ y) q.cs) p.cs;
+            cs = s.cs ++ flat_map (λ x. map (λ y. x ++ y) q.cs) p.cs;
             keep = λ c m. kept c (mem_append c s.cs _ m);
             is = ap₂ o.join s.is (ap₂ o.extend p.is q.is ∙ sym (over_product p.cs q.cs)) ∙ sym (over_append o laws (label_of o) s.cs _);
             upper = above i j;
           }
         where
-          kept : (c : List (Arc K)) → Mem c (stage i j).cs ⊎ Mem c (flat (λ x. map (λ y. x ++ y) (stage k j).cs) (stage i k).cs) → Way arcs (suc k) i j c
+          kept : (c : List (Arc K)) → Mem c (stage i j).cs ⊎ Mem c (flat_map (λ x. map (λ y. x ++ y) (stage k j).cs) (stage i k).cs) → Way arcs (suc k) i j c
           kept c (inl m) = let w = (stage i j).keep c m in (w.0, w.1, inner_more k c w.2)
           kept c (inr m) =
-              let r = of_flat (λ x. map (λ y. x ++ y) (stage k j).cs) c (stage i k).cs m in
+              let r = of_flat_map (λ x. map (λ y. x ++ y) (stage k j).cs) c (stage i k).cs m in
               let t = of_map (λ y. r.0 ++ y) c (stage k j).cs r.2 in
               subst (λ d. Way arcs (suc k) i j d) (sym t.2) (way_append arcs i k j r.0 t.0 ((stage i k).keep r.0 r.1) ((stage k j).keep t.0 t.1))
 

@@ -1,39 +1,35 @@
 -- A table written out as a list.
-use Rattle.std.proofs.Common.{◌≡◌, ℕ, zero, suc, ◌+◌, ◌-◌, ◌*◌, ◌/◌, ◌%◌, ◌<◌, List, map, length, get_or, sym, refl, ap, ◌∙◌, ap₂, suc-mul, arith, length-append}
-use Rattle.std.specs.List.{range_with_len}
-use Rattle.std.proofs.lemmas.List.FromFn.{length-map-range_with_len, get_or-map-range_with_len}
-use Rattle.std.proofs.lemmas.List.{ext_get_or, get_or_append_left, get_or-append_right}
+use Rattle.std.proofs.Common.{◌≡◌, ℕ, zero, suc, ◌+◌, ◌*◌, ◌/◌, ◌%◌, ◌<◌, List, [], ◌∷◌, map, length, get_or, take, sym, ap, ◌∙◌, ap₂, suc-mul, arith, length-append}
+use Rattle.std.specs.List.{range_with_len, flat_map}
+use Rattle.std.proofs.lemmas.List.FromFn.{length-range_with_len, get_or-range_with_len, length-map-range_with_len, get_or-map-range_with_len}
+use Rattle.std.proofs.lemmas.List.Concat.{get_or-flat_map}
+use Rattle.std.proofs.lemmas.List.{ext_get_or, length-take-le}
 use Rattle.std.proofs.lemmas.Nat.{div_below, mod_below, div-add-mod'}
 use Rattle.labels.specs.Algebra.{Ops}
-use Rattle.paths.specs.Chains.{flat}
 use Rattle.paths.specs.Tables.{table, Shows}
 
 module _ {K : Type 0} (n : ℕ) (f : ℕ → ℕ → K) where
-  abbrev rows : ℕ → ℕ → List K
-  rows a h = flat (λ i. map (f i) (range_with_len 0 n)) (range_with_len a h)
+  abbrev row : ℕ → List K
+  row i = map (f i) (range_with_len 0 n)
 
-  length_rows : (a h : ℕ) → length (rows a h) ≡ h * n
-  length_rows a zero = omega arith
-  length_rows a (suc h) =
-      length-append (map (f a) (range_with_len 0 n)) (rows (a + 1) h) ∙ ap₂ ◌+◌ (length-map-range_with_len (f a) 0 n) (length_rows (a + 1) h)
-      ∙ omega (arith, suc-mul h n)
-
-  get_d_rows : (a h i j u : ℕ) (d : K) → i < h → j < n → u ≡ i * n + j → get_or (rows a h) u d ≡ f (a + i) j
-  get_d_rows a zero i j u d hi hj e = absurd (omega arith)
-  get_d_rows a (suc h) zero j u d hi hj e =
-      let at : u ≡ j = omega (arith, e) in
-      get_or_append_left (map (f a) (range_with_len 0 n)) (rows (a + 1) h) d u (omega (arith, length-map-range_with_len (f a) 0 n))
-      ∙ get_or-map-range_with_len (f a) 0 n u j d (omega arith) (omega arith) ∙ ap (λ p. f p j) (omega arith)
-  get_d_rows a (suc h) (suc i) j u d hi hj e =
-      let at : u ≡ n + (i * n + j) = omega (arith, e, suc-mul i n) in
-      get_or-append_right (map (f a) (range_with_len 0 n)) (rows (a + 1) h) n u d (length-map-range_with_len (f a) 0 n) (omega arith)
-      ∙ get_d_rows (a + 1) h i j (u - n) d (omega arith) hj (omega arith) ∙ ap (λ p. f p j) (omega arith)
+  length_rows : (rows : List ℕ) → length (flat_map row rows) ≡ length rows * n
+  length_rows [] = omega arith
+  length_rows (i ∷ rows) =
+      length-append (row i) (flat_map row rows) ∙ ap₂ ◌+◌ (length-map-range_with_len (f i) 0 n) (length_rows rows)
+      ∙ omega (arith, suc-mul (length rows) n)
 
   pub length_table : length (table n f) ≡ n * n
-  length_table = length_rows 0 n
+  length_table = length_rows (range_with_len 0 n) ∙ ap (λ k. k * n) (length-range_with_len 0 n)
 
   pub get_or_table : (i j : ℕ) (d : K) → i < n → j < n → get_or (table n f) (i * n + j) d ≡ f i j
-  get_or_table i j d hi hj = get_d_rows 0 n i j (i * n + j) d hi hj refl ∙ ap (λ p. f p j) (omega arith)
+  get_or_table i j d hi hj =
+      let all = range_with_len 0 n in
+      let r = get_or all i 0 in
+      let above : length (flat_map row (take i all)) ≡ i * n = length_rows (take i all) ∙ ap (λ k. k * n) (length-take-le i all (omega (arith, length-range_with_len 0 n))) in
+      ap (λ u. get_or (table n f) (u + j) d) (sym above)
+      ∙ get_or-flat_map row all i j 0 d (omega (arith, length-range_with_len 0 n)) (omega (arith, length-map-range_with_len (f r) 0 n))
+      ∙ get_or-map-range_with_len (f r) 0 n j j d hj (omega arith)
+      ∙ ap (λ p. f p j) (get_or-range_with_len 0 n i 0 hi ∙ omega arith)
 
 module _ {K : Type 0} (o : Ops K) (n : ℕ) where
   -- n × n cells that show a table are that table written out

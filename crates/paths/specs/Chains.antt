@@ -1,12 +1,8 @@
 -- Chains of arcs, and L(m), the label of each pair.
 use Rattle.std.specs.Prelude.{◌≡◌, ℕ, zero, suc, ◌<◌, cond, ◌⊎◌, List, [], ◌∷◌, ◌++◌, map, ◌==◌}
+use Rattle.std.specs.List.{flat_map}
 use Rattle.labels.specs.Algebra.{Ops}
 pub use Rattle.paths.specs.declared.arc.Arc.{Arc}
-
--- what f gives of each, one after the other
-abbrev pub flat : {A B : Type 0} → (A → List B) → List A → List B
-flat f [] = []
-flat f (x ∷ xs) = f x ++ flat f xs
 
 abbrev pub Mem : {A : Type 0} → A → List A → Type 0
 Mem a [] = ⊥
@@ -21,7 +17,7 @@ module _ {K : Type 0} where
   -- the lists of exactly m arcs, each starting where the one before ended, that lead from i to j
   abbrev pub chains : List (Arc K) → ℕ → ℕ → ℕ → List (List (Arc K))
   chains arcs zero i j = cond (i == j) ([] ∷ []) []
-  chains arcs (suc m) i j = flat (λ a. cond (a.from == i) (map (λ c. a ∷ c) (chains arcs m a.to j)) []) arcs
+  chains arcs (suc m) i j = flat_map (λ a. cond (a.from == i) (map (λ c. a ∷ c) (chains arcs m a.to j)) []) arcs
 
   -- the chains of 1 to m arcs
   abbrev pub chains_upto : List (Arc K) → ℕ → ℕ → ℕ → List (List (Arc K))

@@ -1,12 +1,12 @@
 -- Tables of n × n labels, cell i × n + j for the pair (i, j), and how many rounds a table takes.
-use Rattle.std.specs.Prelude.{◌≡◌, ℕ, zero, suc, ◌+◌, ◌*◌, ◌<◌, ◌≤◌, Bool, true, cond, ◌&&◌, List, map, slice_index_or}
-use Rattle.std.specs.List.{range_with_len}
+use Rattle.std.specs.Prelude.{◌≡◌, ℕ, zero, suc, ◌+◌, ◌*◌, ◌<◌, ◌≤◌, Bool, true, cond, ◌&&◌, List, map, ◌==◌, slice_index_or}
+use Rattle.std.specs.List.{range_with_len, flat_map}
 use Rattle.labels.specs.Algebra.{Ops}
-use Rattle.paths.specs.Chains.{Arc, flat, L, Still}
+use Rattle.paths.specs.Chains.{Arc, join_over, L, Still}
 
 -- f of every pair below n, written out row by row
 abbrev pub table : {K : Type 0} → ℕ → (ℕ → ℕ → K) → List K
-table n f = flat (λ i. map (f i) (range_with_len 0 n)) (range_with_len 0 n)
+table n f = flat_map (λ i. map (f i) (range_with_len 0 n)) (range_with_len 0 n)
 
 -- the cell of the pair (i, j)
 abbrev pub cell : {K : Type 0} → Ops K → ℕ → List K → ℕ → ℕ → K
@@ -39,6 +39,11 @@ module _ {K : Type 0} (o : Ops K) (arcs : List (Arc K)) (n : ℕ) where
     pub some : 1 ≤ m
     pub still : Still o arcs n m
     pub least : (k : ℕ) → 1 ≤ k → k < m → Still o arcs n k → ⊥
+
+-- every way of the table X with each arc put before it that leads to its start: at (i, j) the join, over the arcs from i,
+-- of the arc's label and then X's label from the arc's end to j
+abbrev pub before : {K : Type 0} → Ops K → List (Arc K) → (ℕ → ℕ → K) → ℕ → ℕ → K
+before o arcs X i j = join_over o (λ a. cond (a.from == i) (o.extend a.label (X a.to j)) o.none) arcs
 
 -- every pair is joined with its way through k
 abbrev pub through : {K : Type 0} → Ops K → ℕ → (ℕ → ℕ → K) → ℕ → ℕ → K

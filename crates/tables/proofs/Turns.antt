@@ -5,10 +5,10 @@ use Rattle.std.proofs.lemmas.Nat.{mul-add-lt, div_below, mod_below, div-add-mod'
 use Rattle.labels.specs.Algebra.{Ops, Laws, Absorbs}
 use Rattle.paths.specs.declared.arc.Arc.{Arc}
 use Rattle.paths.specs.Chains.{Mem, L, Still}
-use Rattle.paths.specs.Tables.{cell, Shows, LeastStill}
+use Rattle.paths.specs.Tables.{cell, Shows, LeastStill, before}
 use Rattle.paths.proofs.Joins.{none_join, over_append}
 use Rattle.paths.proofs.Cut.{L_all}
-use Rattle.paths.proofs.Steps.{before, settled}
+use Rattle.paths.proofs.Steps.{settled}
 use Rattle.paths.proofs.Rounds.{round_step}
 use Rattle.catalogue.specs.Meanings.{Meaning, Sound}
 use Rattle.catalogue.specs.Calls.{arc_at}
