@@ -1,7 +1,6 @@
 pub mod Joins
 pub mod Members
 pub mod Order
-pub mod Distinct
 pub mod Cut
 pub mod Steps
 pub mod Rounds
