@@ -1,12 +1,18 @@
 -- A row relaxed, and a table with one of its rows relaxed.
-use Rattle.std.proofs.Common.{◌≡◌, ℕ, zero, suc, ◌+◌, ◌-◌, ◌*◌, ◌<◌, ◌≤◌, cond, List, [], ◌∷◌, ◌++◌, length, get_or, take, drop, set, sym, refl, ap, ◌∙◌, ap₂, add-one, arith, eq-eqb, ne_eqb}
+use Rattle.std.proofs.Common.{◌≡◌, ℕ, zero, suc, ◌+◌, ◌-◌, ◌*◌, ◌<◌, ◌≤◌, cond, eqb, List, [], ◌∷◌, length, get_or, take, set, sym, refl, ap, ◌∙◌, ap₂, subst, add-one, arith}
 use native.Mathlib.Decide.{ℕ_discrete, dec_lt}
-use Rattle.std.proofs.lemmas.List.{get_or_append_left, get_or-append_right, get_or-drop, get_or-take, length-take-le}
+use Rattle.std.proofs.lemmas.List.{get_or-drop, get_or-take}
+use Rattle.std.proofs.lemmas.Slice.{between-put_mid, take-put_mid_below, drop-put_mid}
 use Rattle.std.proofs.lemmas.List.Edits.{get_or-between, length-between}
 use Rattle.std.proofs.lemmas.Nat.{mul-add-lt, mul-le}
 use Rattle.labels.specs.Algebra.{Ops}
 use Rattle.paths.specs.Tables.{cell}
-use Rattle.tables.specs.Tables.{row, put_row, relaxed, with_ways}
+use Rattle.tables.specs.Tables.{row, put_row, relaxed}
+use Rattle.tables.proofs.Choosing.{here, elsewhere}
+
+-- the pairs of row i are joined with the ways over `first` and then those of `ways`
+abbrev pub with_ways : {M : Type 0} → Ops M → M → ℕ → (ℕ → M) → (ℕ → ℕ → M) → ℕ → ℕ → M
+with_ways o first i ways T p j = cond (eqb i p) (o.join (T p j) (o.extend first (ways j))) (T p j)
 
 module _ {M : Type 0} (o : Ops M) (first : M) where
   pub length_relaxed : (row via : List M) → length (relaxed o first row via) ≡ length row
@@ -45,15 +51,11 @@ module _ {M : Type 0} (o : Ops M) (first : M) where
       ∙ ap (λ k. relaxed o first row (take k via)) (sym (add-one j))
 
 module _ {M : Type 0} (o : Ops M) (n : ℕ) (cells new : List M) (f : ℕ) (room : f * n + n ≤ length cells) (fits : length new ≡ n) where
-  front : length (take (f * n) cells) ≡ f * n
-  front = length-take-le (f * n) cells (omega arith)
-
   -- what is read in that row
   pub cell_written : (j : ℕ) (d : M) → j < n → get_or (put_row n cells f new) (f * n + j) d ≡ get_or new j d
   cell_written j d hj =
-      get_or-append_right (take (f * n) cells) (new ++ drop n (drop (f * n) cells)) (f * n) (f * n + j) d front (omega arith)
-      ∙ ap (λ u. get_or (new ++ drop n (drop (f * n) cells)) u d) (let e : (f * n + j) - f * n ≡ j = omega arith in e)
-      ∙ get_or_append_left new (drop n (drop (f * n) cells)) d j (omega arith)
+      sym (get_or-between (put_row n cells f new) (f * n) (f * n + n) j d (omega arith))
+      ∙ ap (λ r. get_or r j d) (between-put_mid (f * n) n cells new (f * n + n) (omega arith) (omega (arith, fits)))
 
   -- and in the others
   pub cell_beside : (i j : ℕ) (d : M) → j < n → (f ≡ i → ⊥) → get_or (put_row n cells f new) (i * n + j) d ≡ get_or cells (i * n + j) d
@@ -62,15 +64,16 @@ module _ {M : Type 0} (o : Ops M) (n : ℕ) (cells new : List M) (f : ℕ) (room
       go : Dec (i < f) → get_or (put_row n cells f new) (i * n + j) d ≡ get_or cells (i * n + j) d
       go (yes h) =
           let below : i * n + j < f * n = omega (arith, mul-add-lt i n j f h hj) in
-          get_or_append_left (take (f * n) cells) (new ++ drop n (drop (f * n) cells)) d (i * n + j) (omega (arith, front))
+          sym (get_or-take (f * n) (put_row n cells f new) (i * n + j) d below)
+          ∙ ap (λ l. get_or l (i * n + j) d) (take-put_mid_below (f * n) n cells new (f * n) (omega arith) (omega arith))
           ∙ get_or-take (f * n) cells (i * n + j) d below
       go (no h) =
           let above : f * n + n ≤ i * n + j = omega (arith, mul-le (suc f) n i n (omega arith) (omega arith)) in
-          get_or-append_right (take (f * n) cells) (new ++ drop n (drop (f * n) cells)) (f * n) (i * n + j) d front (omega arith)
-          ∙ get_or-append_right new (drop n (drop (f * n) cells)) n ((i * n + j) - f * n) d fits (omega arith)
-          ∙ get_or-drop n (drop (f * n) cells) (((i * n + j) - f * n) - n) d
-          ∙ get_or-drop (f * n) cells (n + (((i * n + j) - f * n) - n)) d
-          ∙ ap (λ u. get_or cells u d) (let e : f * n + (n + (((i * n + j) - f * n) - n)) ≡ i * n + j = omega arith in e)
+          let past : ℕ = (i * n + j) - (f * n + n) in
+          subst (λ u. get_or (put_row n cells f new) u d ≡ get_or cells u d) (let e : (f * n + n) + past ≡ i * n + j = omega arith in e)
+          (sym (get_or-drop (f * n + n) (put_row n cells f new) past d)
+          ∙ ap (λ l. get_or l past d) (drop-put_mid (f * n) n cells new (f * n + n) (omega arith) (omega arith) fits)
+          ∙ get_or-drop (f * n + n) cells past d)
 
 module _ {M : Type 0} (o : Ops M) (n : ℕ) where
   pub cell_row : (cells : List M) (i j : ℕ) (d : M) → j < n → get_or (row n cells i) j d ≡ get_or cells (i * n + j) d
@@ -96,7 +99,7 @@ module _ {M : Type 0} (o : Ops M) (n : ℕ) where
           ∙ cell_written o n cells (relaxed o first (row n cells f) via) f room long j o.none hj
           ∙ get_or_relaxed o first (row n cells f) via j (omega (arith, wide)) (fits ∙ sym wide)
           ∙ ap (λ x. o.join x (o.extend first (get_or via j o.none))) (cell_row cells f j o.none hj ∙ ap (λ p. cell o n cells p j) e)
-          ∙ sym (ap (λ b. cond b (o.join (cell o n cells i j) (o.extend first (get_or via j o.none))) (cell o n cells i j)) (eq-eqb f i e))
+          ∙ sym (here f i _ _ e)
       go (no ne) =
           cell_beside o n cells (relaxed o first (row n cells f) via) f room long i j o.none hj ne
-          ∙ sym (ap (λ b. cond b (o.join (cell o n cells i j) (o.extend first (get_or via j o.none))) (cell o n cells i j)) (ne_eqb f i ne))
+          ∙ sym (elsewhere f i _ _ ne)

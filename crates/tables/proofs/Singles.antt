@@ -1,5 +1,5 @@
 -- The table of single arcs, arc by arc.
-use Rattle.std.proofs.Common.{◌≡◌, ℕ, ◌+◌, ◌*◌, ◌<◌, Bool, true, false, cond, eqb, ◌≢◌, List, [], ◌∷◌, ◌++◌, length, get_or, set, Some, sym, refl, ap, ◌∙◌, subst, ap₂, get_or-set_other, get_or-set_same, eq-eqb, ne_eqb}
+use Rattle.std.proofs.Common.{◌≡◌, ℕ, ◌+◌, ◌*◌, ◌<◌, Bool, true, false, cond, eqb, ◌≢◌, List, [], ◌∷◌, ◌++◌, length, get_or, set, Some, sym, refl, ap, ◌∙◌, subst, ap₂, get_or-set_other, get_or-set_same}
 use native.Mathlib.Decide.{ℕ_discrete}
 use Rattle.std.proofs.lemmas.Nat.{mul-add-lt, same_from_place}
 use Rattle.labels.specs.Algebra.{Ops, Laws}
@@ -10,6 +10,7 @@ use Rattle.paths.proofs.Joins.{none_join, over_append, over_cong}
 use Rattle.paths.proofs.Steps.{L_step}
 use Rattle.catalogue.specs.Meanings.{Meaning, Sound}
 use Rattle.catalogue.specs.Calls.{arc_at}
+use Rattle.tables.proofs.Choosing.{here, elsewhere}
 use Rattle.tables.proofs.InForce.{Along, answered_in, along_some}
 
 -- what one arc adds at a pair
@@ -54,11 +55,11 @@ module _ {K : Type 0} (o : Ops K) (laws : Laws o) where
           let h : at < length cells = within in
           subst (λ k. get_or (set cells at value) k o.none ≡ o.join (cell o n cells i j) (alone o a i j)) (ap₂ (λ p q. p * n + q) e f)
           (rw get_or-set_same (ap₂ o.join (ap₂ (cell o n cells) e f)
-          (sym (ap₂ (λ b d. cond b (cond d a.label o.none) o.none) (eq-eqb a.from i e) (eq-eqb a.to j f)))))
+          (sym (here a.from i _ _ e ∙ here a.to j _ _ f))))
       go (no e) d = other (λ p. e (same_from_place a.from a.to i j n ht hj p).0)
-          (ap (λ b. cond b (cond (eqb a.to j) a.label o.none) o.none) (ne_eqb a.from i e))
+          (elsewhere a.from i _ _ e)
       go (yes e) (no f) = other (λ p. f (same_from_place a.from a.to i j n ht hj p).1)
-          (ap₂ (λ b d. cond b (cond d a.label o.none) o.none) (eq-eqb a.from i e) (ne_eqb a.to j f))
+          (here a.from i _ _ e ∙ elsewhere a.to j _ _ f)
 
   -- L(1) of one place more
   module _ (m : Meaning K) (k : ℕ) (cells : List K) (along : Along m o m.n (λ arcs. L o arcs 1) k cells) where

@@ -1,15 +1,18 @@
 -- One stage of the elimination, row by row and in place.
-use Rattle.std.proofs.Common.{◌≡◌, ℕ, ◌+◌, ◌-◌, ◌*◌, ◌<◌, Bool, true, false, cond, not, ltb, List, ◌++◌, length, get_or, sym, refl, ap, ◌∙◌, subst, ap₂, add-one, length-append, arith}
+use Rattle.std.proofs.Common.{◌≡◌, ℕ, ◌+◌, ◌-◌, ◌*◌, ◌<◌, false, cond, not, ltb, List, ◌++◌, length, get_or, sym, ap, ◌∙◌, subst, ap₂, add-one, length-append, arith}
 use native.Mathlib.Decide.{ℕ_discrete, dec_lt}
+use borrow.Author.Tests.{not-false}
 use Rattle.std.proofs.Math.Nat.{add-mul}
 use Rattle.std.proofs.lemmas.Nat.{mul-add-lt, row_fits}
 use Rattle.std.proofs.lemmas.List.{get_or_append_left, get_or-append_right}
 use Rattle.labels.specs.Algebra.{Ops, Laws, Absorbs, Exact}
 use Rattle.paths.specs.Tables.{cell, Shows, through, eliminated}
+use Rattle.paths.proofs.Joins.{none_join}
 use Rattle.paths.proofs.Order.{under_extend}
-use Rattle.tables.specs.Tables.{with_ways, over_column, Reaches}
+use Rattle.tables.specs.Tables.{over_column, Reaches}
 use Rattle.tables.proofs.Areas.{row_within}
 use Rattle.tables.proofs.Choosing.{here, elsewhere, below, from, beside}
+use Rattle.tables.proofs.RowWrites.{with_ways}
 
 -- the rows below r are those of T, the others those of U
 abbrev pub rows : {M : Type 0} → ℕ → (ℕ → ℕ → M) → (ℕ → ℕ → M) → ℕ → ℕ → M
@@ -26,11 +29,8 @@ module _ {M : Type 0} (o : Ops M) (n : ℕ) where
 module _ {M : Type 0} (o : Ops M) where
   -- where there is no way to the package, there is none through it
   unmoved : Laws o → Exact o → (first x y : M) → not (o.same first o.none) ≡ false → x ≡ o.join x (o.extend first y)
-  unmoved laws exact first x y h = go (o.same first o.none) refl h
-    where
-      go : (b : Bool) → o.same first o.none ≡ b → not b ≡ false → x ≡ o.join x (o.extend first y)
-      go true e _ = sym (ap (λ l. o.join x (o.extend l y)) (exact.sound first o.none e) ∙ ap (o.join x) (laws.none_left y) ∙ laws.join_comm x o.none ∙ laws.join_none x)
-      go false e p = let z : ◌≡◌ {A = ℕ} 0 1 = cc in absurd (omega arith)
+  unmoved laws exact first x y h =
+      sym (ap (λ l. o.join x (o.extend l y)) (exact.sound first o.none (not-false _ h)) ∙ ap (o.join x) (laws.none_left y) ∙ none_join o laws x)
 
   pub row_left : Laws o → Exact o → (n r : ℕ) (ways : ℕ → M) (first : M) (cells : List M) → not (o.same first o.none) ≡ false
       → (i j : ℕ) → j < n → cell o n cells i j ≡ with_ways o first r ways (cell o n cells) i j

@@ -1,5 +1,5 @@
 -- Rows of a table of n × n labels, which lie one after the other.
-use Rattle.std.specs.Prelude.{◌≡◌, ℕ, ◌+◌, ◌*◌, ◌<◌, ◌≤◌, cond, List, [], ◌∷◌, length, ◌==◌}
+use Rattle.std.specs.Prelude.{◌≡◌, ℕ, ◌+◌, ◌*◌, ◌<◌, ◌≤◌, List, [], ◌∷◌, length}
 use borrow.Rule.Slice.PartMut.{put_mid}
 use Rattle.std.specs.List.{between}
 use Rattle.labels.specs.Algebra.{Ops}
@@ -22,10 +22,6 @@ abbrev pub relaxed : {M : Type 0} → Ops M → M → List M → List M → List
 relaxed o first row [] = row
 relaxed o first [] (y ∷ via) = []
 relaxed o first (x ∷ row) (y ∷ via) = o.join x (o.extend first y) ∷ relaxed o first row via
-
--- the pairs of row i are joined with the ways over `first` and then those of `ways`
-abbrev pub with_ways : {M : Type 0} → Ops M → M → ℕ → (ℕ → M) → (ℕ → ℕ → M) → ℕ → ℕ → M
-with_ways o first i ways T p j = cond (i == p) (o.join (T p j) (o.extend first (ways j))) (T p j)
 
 -- the pairs are joined with the ways over the label in column k and then those of `ways`
 abbrev pub over_column : {M : Type 0} → Ops M → ℕ → (ℕ → M) → (ℕ → ℕ → M) → ℕ → ℕ → M
