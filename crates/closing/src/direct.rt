@@ -32,7 +32,8 @@ pub(crate) fn direct<C: Catalogue>(catalogue: &C, cells: &mut [C::Label])
     let side = Side::of(catalogue);
     clear(cells);
     let places = catalogue.stock_len();
-    // By place: the check refuses what it writes for a loop over `filter_map` of `arc_at`.
+    // By place: no `for` over `filter_map` of `arc_at` can be proved, as the goal that the check
+    // writes for it has a type error.
     for k in 0..places {
         if let Some(arc) = catalogue.arc_at(k) {
             join_to(cells, side.place(arc.from, arc.to), arc.label);

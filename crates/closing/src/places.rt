@@ -1,6 +1,6 @@
 // Where the rows and cells of a table of n × n labels lie.
-// Tables stay slices: each method of a struct of a slice and its side has to promise that it
-// keeps both, which takes as many clauses as the slice's length does.
+// A table is a slice beside its `Side`: a struct of the two would save no clause, since each of its
+// methods would have to promise that it keeps both.
 ghost use Rattle.std.specs.Prelude.{◌≡◌, ◌+◌, ◌*◌, ◌<◌, ◌≤◌};
 
 use catalogue::Catalogue;

@@ -1,6 +1,6 @@
 -- The search for the least m of 1 or more with L(m + 1) = L(m) finds it.
 use Rattle.std.proofs.Common.{◌≡◌, ℕ, zero, suc, ◌+◌, ◌<◌, ◌≤◌, Bool, true, false, cond, ◌&&◌, List, sym, refl, ap, ◌∙◌, subst, true≢false, arith}
-use mathlib.Core.Bool.{false≢true}
+use Rattle.std.proofs.lemmas.Bool.{false≢true}
 use native.Mathlib.Decide.{dec_lt, ℕ_discrete}
 use Rattle.labels.specs.Algebra.{Ops, Laws, Absorbs, Exact}
 use Rattle.paths.specs.Chains.{Arc, Mem, L, Still}

@@ -1,7 +1,6 @@
 -- What was found is joined to the cells one after the other.
 use Rattle.std.proofs.Common.{◌≡◌, ℕ, ◌+◌, ◌<◌, ◌≤◌, Bool, true, false, cond, not, ◌||◌, ◌≢◌, List, length, get_or, set, sym, refl, ap, ◌∙◌, ap₂, true≢false, arith, get_or-set_other, get_or-set_same, below_more}
-use borrow.Author.Tests.{not-false}
-use Rattle.std.proofs.lemmas.Bool.{or_parts}
+use Rattle.std.proofs.lemmas.Bool.{not-false, or_parts}
 use Rattle.std.proofs.lemmas.List.{get_or_default}
 use Rattle.labels.specs.Algebra.{Ops, Laws, Absorbs, Exact}
 use Rattle.paths.proofs.Joins.{none_join}

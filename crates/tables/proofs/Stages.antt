@@ -1,8 +1,8 @@
 -- One stage of the elimination, row by row and in place.
 use Rattle.std.proofs.Common.{◌≡◌, ℕ, ◌+◌, ◌-◌, ◌*◌, ◌<◌, false, cond, not, ltb, List, ◌++◌, length, get_or, sym, ap, ◌∙◌, subst, ap₂, add-one, length-append, arith}
 use native.Mathlib.Decide.{ℕ_discrete, dec_lt}
-use borrow.Author.Tests.{not-false}
 use Rattle.std.proofs.Math.Nat.{add-mul}
+use Rattle.std.proofs.lemmas.Bool.{not-false}
 use Rattle.std.proofs.lemmas.Nat.{mul-add-lt, row_fits}
 use Rattle.std.proofs.lemmas.List.{get_or_append_left, get_or-append_right}
 use Rattle.labels.specs.Algebra.{Ops, Laws, Absorbs, Exact}
