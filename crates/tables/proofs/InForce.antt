@@ -1,7 +1,8 @@
 -- Going through the places of a stock.
 use Rattle.std.proofs.Common.{◌≡◌, ℕ, zero, suc, ◌+◌, ◌<◌, ◌≤◌, true, false, cond, List, [], ◌∷◌, ◌++◌, length, take, Some, None, filter, Option, sym, refl, ap, ◌∙◌, subst, inl, inr, append-nil, add-one, arith, take_all}
-use Rattle.std.specs.List.{AllByRecursion, slice_get}
-use Rattle.std.proofs.ByRecursion.{all_kept_by}
+use Rattle.std.specs.List.{All, AllByRecursion, slice_get}
+use Rattle.std.specs.Option.{IfSome, option_to_list}
+use Rattle.std.proofs.lemmas.List.Elements.{All-from_recursion, All-head, All-tail, All-filter}
 use Rattle.labels.specs.Algebra.{Ops}
 use Rattle.paths.specs.declared.arc.Arc.{Arc}
 use Rattle.paths.specs.Chains.{Mem}
@@ -9,28 +10,20 @@ use Rattle.paths.specs.Tables.{cell, Shows}
 use Rattle.catalogue.specs.Meanings.{Meaning, ArcOk, Sound, free_ends, in_force}
 use Rattle.catalogue.specs.Calls.{unheld, arc_at}
 
-abbrev If : {A : Type 0} → (A → Type 0) → Option A → Type 0
-If P None = Unit {0}
-If P (Some a) = P a
-
-abbrev listed : {A : Type 0} → Option A → List A
-listed None = []
-listed (Some a) = a ∷ []
-
-mem_all : {A : Type 0} (P : A → Type 0) (xs : List A) (a : A) → AllByRecursion P xs → Mem a xs → P a
+mem_all : {A : Type 0} (P : A → Type 0) (xs : List A) (a : A) → All P xs → Mem a xs → P a
 mem_all P [] a h m = elim m [ ]
-mem_all P (x ∷ xs) a h (inl e) = subst P (sym e) h.0
-mem_all P (x ∷ xs) a h (inr m) = mem_all P xs a h.1 m
+mem_all P (x ∷ xs) a h (inl e) = subst P (sym e) (All-head P x xs h)
+mem_all P (x ∷ xs) a h (inr m) = mem_all P xs a (All-tail P x xs h) m
 
 module _ {K : Type 0} (m : Meaning K) where
-  if_at : (P : Arc K → Type 0) (xs : List (Arc K)) (k : ℕ) → AllByRecursion P xs → If P (unheld m (slice_get xs k))
+  if_at : (P : Arc K → Type 0) (xs : List (Arc K)) (k : ℕ) → AllByRecursion P xs → IfSome (unheld m (slice_get xs k)) P
   if_at P [] k h = tt
-  if_at P (x ∷ xs) zero h = elim (free_ends m x) as (λ b. If P (cond b (Some x) None)) [ true ↦ h.0 | false ↦ tt ]
+  if_at P (x ∷ xs) zero h = elim (free_ends m x) as (λ b. IfSome (cond b (Some x) None) P) [ true ↦ h.0 | false ↦ tt ]
   if_at P (x ∷ xs) (suc k) h = if_at P xs k h.1
 
   -- an arc that is answered is lawful
   answered_ok : (o : Ops K) (k : ℕ) (a : Arc K) → Sound o m → Some a ≡ arc_at m k → ArcOk o m.n a
-  answered_ok o k a s e = subst (If (ArcOk o m.n)) (sym e) (if_at (ArcOk o m.n) m.stock k s.arcs)
+  answered_ok o k a s e = subst (λ r. IfSome r (ArcOk o m.n)) (sym e) (if_at (ArcOk o m.n) m.stock k s.arcs)
 
   -- its ends are below n, which is at most 1024
   pub record Inside (n : ℕ) (a : Arc K) : Type 0 where
@@ -43,23 +36,23 @@ module _ {K : Type 0} (m : Meaning K) where
 
   -- an arc in force ends below n
   pub in_force_to : (o : Ops K) → Sound o m → (a : Arc K) → Mem a (in_force m) → a.to < m.n
-  in_force_to o s a h = (mem_all (ArcOk o m.n) (in_force m) a (all_kept_by (free_ends m) (ArcOk o m.n) m.stock s.arcs) h).to_in
+  in_force_to o s a h = (mem_all (ArcOk o m.n) (in_force m) a (All-filter (free_ends m) (ArcOk o m.n) m.stock (All-from_recursion (ArcOk o m.n) m.stock s.arcs)) h).to_in
 
   -- the arcs in force among the first k places
   abbrev pub first_arcs : ℕ → List (Arc K)
   first_arcs k = filter (free_ends m) (take k m.stock)
 
-  step : (xs : List (Arc K)) (k : ℕ) → filter (free_ends m) (take (suc k) xs) ≡ filter (free_ends m) (take k xs) ++ listed (unheld m (slice_get xs k))
+  step : (xs : List (Arc K)) (k : ℕ) → filter (free_ends m) (take (suc k) xs) ≡ filter (free_ends m) (take k xs) ++ option_to_list (unheld m (slice_get xs k))
   step [] zero = refl
   step [] (suc k) = refl
-  step (x ∷ xs) zero = elim (free_ends m x) as (λ b. cond b (x ∷ []) [] ≡ listed (cond b (Some x) None)) [ true ↦ refl | false ↦ refl ]
+  step (x ∷ xs) zero = elim (free_ends m x) as (λ b. cond b (x ∷ []) [] ≡ option_to_list (cond b (Some x) None)) [ true ↦ refl | false ↦ refl ]
   step (x ∷ xs) (suc k) =
       let keep = filter (free_ends m) in
-      elim (free_ends m x) as (λ b. cond b (x ∷ keep (take (suc k) xs)) (keep (take (suc k) xs)) ≡ cond b (x ∷ keep (take k xs)) (keep (take k xs)) ++ listed (unheld m (slice_get xs k)))
+      elim (free_ends m x) as (λ b. cond b (x ∷ keep (take (suc k) xs)) (keep (take (suc k) xs)) ≡ cond b (x ∷ keep (take k xs)) (keep (take k xs)) ++ option_to_list (unheld m (slice_get xs k)))
       [ true ↦ ap (λ r. x ∷ r) (step xs k) | false ↦ step xs k ]
 
-  next : (k : ℕ) (x : Option (Arc K)) → x ≡ arc_at m k → first_arcs (k + 1) ≡ first_arcs k ++ listed x
-  next k x e = rw add-one (step m.stock k ∙ ap (λ y. first_arcs k ++ listed y) (sym e))
+  next : (k : ℕ) (x : Option (Arc K)) → x ≡ arc_at m k → first_arcs (k + 1) ≡ first_arcs k ++ option_to_list x
+  next k x e = rw add-one (step m.stock k ∙ ap (λ y. first_arcs k ++ option_to_list y) (sym e))
 
   -- the cells are the table T of the arcs in force among the first k places; so of all, once k has passed them
   pub record Along (o : Ops K) (n : ℕ) (T : List (Arc K) → ℕ → ℕ → K) (k : ℕ) (cells : List K) : Type 0 where

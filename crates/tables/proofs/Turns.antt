@@ -63,20 +63,17 @@ pub record Turn {K : Type 0} (o : Ops K) (arcs : List (Arc K)) (n q : ℕ) (cell
   pub least : (p : ℕ) → 1 ≤ p → p < suc q → Still o arcs n p → ⊥
 
 module _ {K : Type 0} (o : Ops K) (laws : Laws o) (arcs : List (Arc K)) (n : ℕ) where
-  in_table : (i j : ℕ) → i < n → j < n → i * n + j < n * n
-  in_table i j hi hj = mul-add-lt i n j n hi hj
-
   module _ (absorbs : Absorbs o) (ends : (a : Arc K) → Mem a arcs → a.to < n) (q : ℕ) (cells changed found ways cells' changed' found' : List K) (moved : Bool)
       (turn : Turn o arcs n q cells changed found)
       (spread : Shows o n ways (led o (cell o n found) (cell o n changed) arcs))
       (long : length cells ≡ n * n) (settle : Settled o cells ways cells' changed' found' (length cells) moved) where
     in_cells : (i j : ℕ) → i < n → j < n → i * n + j < length cells
-    in_cells i j hi hj = omega (arith, in_table i j hi hj)
+    in_cells i j hi hj = omega (arith, mul-add-lt i n j n hi hj)
 
     next : Shows o n cells' (L o arcs (suc (suc q)))
     next i j hi hj =
         settle.joined (i * n + j) (in_cells i j hi hj)
-        ∙ ap₂ o.join (turn.shows i j hi hj) (spread i j hi hj ∙ ap (λ x. o.join x (before o arcs (cell o n changed) i j)) (turn.clean (i * n + j) (in_table i j hi hj)) ∙ laws.join_none (before o arcs (cell o n changed) i j))
+        ∙ ap₂ o.join (turn.shows i j hi hj) (spread i j hi hj ∙ ap (λ x. o.join x (before o arcs (cell o n changed) i j)) (turn.clean (i * n + j) (mul-add-lt i n j n hi hj)) ∙ laws.join_none (before o arcs (cell o n changed) i j))
         ∙ sym (round_step o laws arcs n q (cell o n changed) ends turn.told i j hj)
 
     next_told : (i j : ℕ) → i < n → j < n → o.join (L o arcs (suc q) i j) (cell o n changed' i j) ≡ L o arcs (suc (suc q)) i j
