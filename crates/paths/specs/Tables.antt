@@ -40,8 +40,8 @@ module _ {K : Type 0} (o : Ops K) (arcs : List (Arc K)) (n : ℕ) where
     pub still : Still o arcs n m
     pub least : (k : ℕ) → 1 ≤ k → k < m → Still o arcs n k → ⊥
 
--- every way of the table X with each arc put before it that leads to its start: at (i, j) the join, over the arcs from i,
--- of the arc's label and then X's label from the arc's end to j
+-- one arc put before each way of the table X: at (i, j) the join, over the arcs from i, of the arc's label extended
+-- by X's label from the arc's end to j
 abbrev pub before : {K : Type 0} → Ops K → List (Arc K) → (ℕ → ℕ → K) → ℕ → ℕ → K
 before o arcs X i j = join_over o (λ a. cond (a.from == i) (o.extend a.label (X a.to j)) o.none) arcs
 
