@@ -1,5 +1,5 @@
 -- A line is a command just where it is that command's written form. Assumes nothing.
-use Rattle.std.proofs.Common.{◌≡◌, ℕ, ◌^◌, ◌<◌, ◌≤◌, true, cond, eqb, ltb, List, [], ◌∷◌, ◌++◌, length, get_or, drop, Some, None, Ok, decimal, Option, ok_or, sym, refl, ap, ◌∙◌, subst, arith}
+use Rattle.std.proofs.Common.{◌≡◌, ℕ, ◌^◌, ◌<◌, ◌≤◌, true, cond, eqb, ltb, List, [], ◌∷◌, ◌++◌, length, get_or, drop, Some, None, Ok, decimal, Option, option_map, ok_or, sym, refl, ap, ◌∙◌, subst, arith}
 use Rattle.std.proofs.lemmas.Fmt.{length-decimal-le}
 use Rattle.std.proofs.lemmas.List.{length-append}
 use Rattle.std.proofs.lemmas.Option.{none-some, same_Some}
@@ -8,30 +8,30 @@ use Rattle.catalogue.specs.Refusals.{answer}
 use Rattle.catalogue.specs.declared.refusal.Refusal.TheVariants.{NotCommand}
 use Rattle.console.specs.declared.command.Command.{Command}
 use Rattle.console.specs.declared.command.Command.TheVariants.{Size, Admit, Withdraw, Hold, Lift, Label}
-use Rattle.console.specs.Grammar.{Exactly, Fits, admit_of, by_letter, command_of, field, number_of, opened, or_16, three_of, two_of, with, written}
-use Rattle.console.proofs.Fields.{three_all, three_some, two_all, two_some, with_some}
+use Rattle.console.specs.Grammar.{Exactly, Fits, admit_of, by_letter, command_of, field, number_of, opened, or_16, three_of, two_of, written}
+use Rattle.console.proofs.Fields.{three_all, three_some, two_all, two_some, map_some}
 use Rattle.console.proofs.Numbers.{number_all, number_some}
 
 abbrev Says : ℕ → List ℕ → Command → Type 0
 Says l bs c = (l ∷ (32 ∷ bs) ≡ written c) × Fits c
 
-one_some : (make : ℕ → Command) (l : ℕ) → ((p : ℕ) → written (make p) ≡ l ∷ field p) → ((p : ℕ) → p < 2 ^ 32 → Fits (make p)) → (bs : List ℕ) (c : Command) → with (number_of bs) (λ p. Some (make p)) ≡ Some c → Says l bs c
+one_some : (make : ℕ → Command) (l : ℕ) → ((p : ℕ) → written (make p) ≡ l ∷ field p) → ((p : ℕ) → p < 2 ^ 32 → Fits (make p)) → (bs : List ℕ) (c : Command) → option_map make (number_of bs) ≡ Some c → Says l bs c
 one_some make l form fits bs c e =
-    let w = with_some (number_of bs) (λ p. Some (make p)) c e in
+    let w = map_some make (number_of bs) c e in
     let n = number_some bs w.0 w.1 in
-    subst (Says l bs) (same_Some (make w.0) c w.2) (ap (λ ys. l ∷ (32 ∷ ys)) n.0 ∙ sym (form w.0), fits w.0 n.1)
+    subst (Says l bs) w.2 (ap (λ ys. l ∷ (32 ∷ ys)) n.0 ∙ sym (form w.0), fits w.0 n.1)
 
-pair_some : (make : ℕ → ℕ → Command) (l : ℕ) → ((f t : ℕ) → written (make f t) ≡ l ∷ (field f ++ field t)) → ((f t : ℕ) → f < 2 ^ 32 → t < 2 ^ 32 → Fits (make f t)) → (bs : List ℕ) (c : Command) → with (two_of bs) (λ t. Some (make t.0 t.1)) ≡ Some c → Says l bs c
+pair_some : (make : ℕ → ℕ → Command) (l : ℕ) → ((f t : ℕ) → written (make f t) ≡ l ∷ (field f ++ field t)) → ((f t : ℕ) → f < 2 ^ 32 → t < 2 ^ 32 → Fits (make f t)) → (bs : List ℕ) (c : Command) → option_map (λ t. make t.0 t.1) (two_of bs) ≡ Some c → Says l bs c
 pair_some make l form fits bs c e =
-    let w = with_some (two_of bs) (λ t. Some (make t.0 t.1)) c e in
+    let w = map_some (λ t. make t.0 t.1) (two_of bs) c e in
     let n = two_some bs w.0 w.1 in
-    subst (Says l bs) (same_Some (make w.0.0 w.0.1) c w.2) (ap (λ ys. l ∷ (32 ∷ ys)) n.0 ∙ sym (form w.0.0 w.0.1), fits w.0.0 w.0.1 n.1.0 n.1.1)
+    subst (Says l bs) w.2 (ap (λ ys. l ∷ (32 ∷ ys)) n.0 ∙ sym (form w.0.0 w.0.1), fits w.0.0 w.0.1 n.1.0 n.1.1)
 
 admit_some : (bs : List ℕ) (c : Command) → admit_of bs ≡ Some c → Says 97 bs c
 admit_some bs c e =
-    let w = with_some (three_of bs) (λ t. Some (Admit t.0 t.1 t.2)) c e in
+    let w = map_some (λ t. Admit t.0 t.1 t.2) (three_of bs) c e in
     let n = three_some bs w.0 w.1 in
-    subst (Says 97 bs) (same_Some (Admit w.0.0 w.0.1 w.0.2) c w.2) (ap (λ ys. 97 ∷ (32 ∷ ys)) n.0, n.1)
+    subst (Says 97 bs) w.2 (ap (λ ys. 97 ∷ (32 ∷ ys)) n.0, n.1)
 
 -- one letter: what its command says, and else what the other letters say
 by_one : (l k : ℕ) (bs : List ℕ) (c : Command) (o p : Option Command) → (o ≡ Some c → Says k bs c) → (p ≡ Some c → Says l bs c) → cond (eqb l k) o p ≡ Some c → Says l bs c
@@ -68,12 +68,12 @@ opening : (l : ℕ) (bs : List ℕ) → command_of (l ∷ (32 ∷ bs)) ≡ by_le
 opening l bs = cond-true (opened (l ∷ (32 ∷ bs))) _ _ (and_from _ _ (lt-ltb 1 (length (l ∷ (32 ∷ bs))) (omega arith)) refl)
 
 command_all : (c : Command) → Fits c → command_of (written c) ≡ Some c
-command_all (Size p) fits = opening 110 (decimal p) ∙ ap (λ o. with o (λ n. Some (Size n))) (number_all p fits)
-command_all (Admit f t m) fits = opening 97 (decimal f ++ (field t ++ field m)) ∙ ap (λ o. with o (λ n. Some (Admit n.0 n.1 n.2))) (three_all f t m fits.0 fits.1 fits.2)
-command_all (Withdraw f t) fits = opening 119 (decimal f ++ field t) ∙ ap (λ o. with o (λ n. Some (Withdraw n.0 n.1))) (two_all f t fits.0 fits.1)
-command_all (Hold p) fits = opening 104 (decimal p) ∙ ap (λ o. with o (λ n. Some (Hold n))) (number_all p fits)
-command_all (Lift p) fits = opening 108 (decimal p) ∙ ap (λ o. with o (λ n. Some (Lift n))) (number_all p fits)
-command_all (Label f t) fits = opening 109 (decimal f ++ field t) ∙ ap (λ o. with o (λ n. Some (Label n.0 n.1))) (two_all f t fits.0 fits.1)
+command_all (Size p) fits = opening 110 (decimal p) ∙ ap (option_map (λ n. Size n)) (number_all p fits)
+command_all (Admit f t m) fits = opening 97 (decimal f ++ (field t ++ field m)) ∙ ap (option_map (λ n. Admit n.0 n.1 n.2)) (three_all f t m fits.0 fits.1 fits.2)
+command_all (Withdraw f t) fits = opening 119 (decimal f ++ field t) ∙ ap (option_map (λ n. Withdraw n.0 n.1)) (two_all f t fits.0 fits.1)
+command_all (Hold p) fits = opening 104 (decimal p) ∙ ap (option_map (λ n. Hold n)) (number_all p fits)
+command_all (Lift p) fits = opening 108 (decimal p) ∙ ap (option_map (λ n. Lift n)) (number_all p fits)
+command_all (Label f t) fits = opening 109 (decimal f ++ field t) ∙ ap (option_map (λ n. Label n.0 n.1)) (two_all f t fits.0 fits.1)
 
 pub exactly : (line : List ℕ) (o : Option Command) → o ≡ command_of line → Exactly line (ok_or o NotCommand)
 exactly line (Some c) e = record {

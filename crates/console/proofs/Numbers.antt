@@ -1,11 +1,11 @@
 -- A number is read from just the bytes that write it in decimal. Assumes nothing.
-use Rattle.std.proofs.Common.{◌≡◌, ℕ, ◌+◌, ◌-◌, ◌*◌, ◌^◌, ◌<◌, ◌≤◌, false, cond, ◌||◌, eqb, ltb, List, [], ◌∷◌, length, get_or, Some, None, decimal, Option, sym, refl, ap, ◌∙◌, ⊎_elim, arith, rules}
+use Rattle.std.proofs.Common.{◌≡◌, ℕ, ◌+◌, ◌-◌, ◌*◌, ◌^◌, ◌<◌, ◌≤◌, false, cond, ◌||◌, eqb, ltb, List, [], ◌∷◌, length, get_or, Some, None, decimal, Option, option_and_then, sym, refl, ap, ◌∙◌, ⊎_elim, arith, rules}
 use Rattle.std.specs.Int.{IsInRange}
 use Rattle.std.proofs.lemmas.Fmt.{decimal_digit, decimal_nonempty, decimal-digits_value, digits_decimal, first_decimal, digits_value-decimal}
 use Rattle.std.proofs.lemmas.Option.{none-some, same_Some}
 use Rattle.std.proofs.lemmas.Str.Parse.{IsNumeralModel, numerals_by_fold}
 use Rattle.std.proofs.lemmas.Bool.{and_cases, and_left, and_right, cases_lt, cond_both, cond-false, eqb-false, le-ltb, ltb-false, ne_eqb, or_from, or_parts}
-use Rattle.console.specs.Grammar.{digits_of, grow, number_of, padded, with}
+use Rattle.console.specs.Grammar.{digits_of, grow, number_of, padded}
 
 abbrev pub Figures : List ℕ → Type 0
 Figures [] = Unit {0}
@@ -26,7 +26,7 @@ digits_some : (sum : ℕ) (bs : List ℕ) (n : ℕ) → sum < 2 ^ 32 → digits_
 digits_some sum [] n small = λ e. let same = same_Some sum n e in (tt, same, omega arith)
 digits_some sum (b ∷ bs) n small =
     let more = sum * 10 + (b - 48) in
-    let P : Option ℕ → Type 0 = λ o. with o (λ m. digits_of m bs) ≡ Some n → (IsInRange 48 57 b × Figures bs) × (read_on more bs ≡ n) × (n < 2 ^ 32) in
+    let P : Option ℕ → Type 0 = λ o. option_and_then (λ m. digits_of m bs) o ≡ Some n → (IsInRange 48 57 b × Figures bs) × (read_on more bs ≡ n) × (n < 2 ^ 32) in
     cond_both (ltb b 48 || ltb 57 b) None (cond (ltb 4294967295 more) None (Some more)) P
     (λ _ e. absurd (none-some n e))
     (λ digit. cond_both (ltb 4294967295 more) None (Some more) P (λ _ e. absurd (none-some n e)) (λ fits e.
@@ -41,7 +41,7 @@ digits_all sum (b ∷ bs) figs small =
     let digit : (ltb b 48 || ltb 57 b) ≡ false = or_from _ _ (le-ltb b 48 figs.0.0) (le-ltb 57 b figs.0.1) in
     let fits : ltb 4294967295 more ≡ false = le-ltb 4294967295 more (omega (arith, read_on_ge more bs)) in
     let grows : grow sum b ≡ Some more = cond-false _ _ _ digit ∙ cond-false _ _ _ fits in
-    ap (λ o. with o (λ m. digits_of m bs)) grows ∙ digits_all more bs figs.1 small
+    ap (option_and_then (λ m. digits_of m bs)) grows ∙ digits_all more bs figs.1 small
 
 pub number_some : (bs : List ℕ) (n : ℕ) → number_of bs ≡ Some n → (bs ≡ decimal n) × (n < 2 ^ 32)
 number_some bs n =

@@ -1,14 +1,9 @@
 -- Which lines are commands.
-use Rattle.std.specs.Prelude.{◌≡◌, ℕ, ◌+◌, ◌-◌, ◌*◌, ◌^◌, ◌<◌, Bool, cond, ◌&&◌, ◌||◌, List, [], ◌∷◌, ◌++◌, length, take, drop, Some, None, Ok, Err, decimal, Option, Result, ◌==◌, ◌≢◌, nat_lt, slice_index}
+use Rattle.std.specs.Prelude.{◌≡◌, ℕ, ◌+◌, ◌-◌, ◌*◌, ◌^◌, ◌<◌, Bool, cond, ◌&&◌, ◌||◌, List, [], ◌∷◌, ◌++◌, length, take, drop, Some, None, Ok, Err, decimal, Option, option_map, option_and_then, position, Result, ◌==◌, ◌≢◌, nat_lt, slice_index}
 use Rattle.catalogue.specs.declared.refusal.Refusal.{Refusal}
 use Rattle.catalogue.specs.Refusals.{answer}
 use Rattle.console.specs.declared.command.Command.{Command}
 use Rattle.console.specs.declared.command.Command.TheVariants.{Size, Admit, Withdraw, Hold, Lift, Label}
-
--- f of what o holds
-abbrev pub with : {X Y : Type 0} → Option X → (X → Option Y) → Option Y
-with None f = None
-with (Some x) f = f x
 
 -- the number with one more digit, below 2 ^ 32
 abbrev pub grow : ℕ → ℕ → Option ℕ
@@ -17,7 +12,7 @@ grow sum b = cond (nat_lt b 48 || nat_lt 57 b) None (cond (nat_lt 4294967295 (su
 -- the number that begins with sum and goes on in digits
 abbrev pub digits_of : ℕ → List ℕ → Option ℕ
 digits_of sum [] = Some sum
-digits_of sum (b ∷ bs) = with (grow sum b) (λ more. digits_of more bs)
+digits_of sum (b ∷ bs) = option_and_then (λ more. digits_of more bs) (grow sum b)
 
 -- a zero and more
 abbrev pub padded : List ℕ → Bool
@@ -26,41 +21,35 @@ padded bs = nat_lt 1 (length bs) && slice_index bs 0 == 48
 abbrev pub number_of : List ℕ → Option ℕ
 number_of bs = cond (length bs == 0 || padded bs) None (digits_of 0 bs)
 
-abbrev pub first_space : List ℕ → ℕ
-first_space [] = 0
-first_space (b ∷ bs) = cond (b == 32) 0 (1 + first_space bs)
-
--- what stands before the first space, read by f, and what stands after it, read by g
-abbrev pub parted : {X Y Z : Type 0} → (List ℕ → Option X) → (List ℕ → Option Y) → (X → Y → Z) → List ℕ → Option Z
-parted f g join bs = cond (first_space bs == length bs) None (with (f (take (first_space bs) bs)) (λ x. with (g (drop (first_space bs + 1) bs)) (λ y. Some (join x y))))
-
 -- the number before the first space, and what stands after that space
 abbrev pub split_of : List ℕ → Option (ℕ × List ℕ)
-split_of bs = cond (first_space bs == length bs) None (with (number_of (take (first_space bs) bs)) (λ x. Some (x, drop (first_space bs + 1) bs)))
+split_of bs = option_and_then (λ k. option_map (λ n. (n, drop (k + 1) bs)) (number_of (take k bs))) (position (λ b. b == 32) bs)
 
+-- two numbers, and one space between them
 abbrev pub two_of : List ℕ → Option (ℕ × ℕ)
-two_of bs = parted number_of number_of (λ x y. (x, y)) bs
+two_of bs = option_and_then (λ s. option_map (λ n. (s.0, n)) (number_of s.1)) (split_of bs)
 
+-- a number, one space and two more
 abbrev pub three_of : List ℕ → Option (ℕ × ℕ × ℕ)
-three_of bs = parted number_of two_of (λ x p. (x, p.0, p.1)) bs
+three_of bs = option_and_then (λ s. option_map (λ t. (s.0, t.0, t.1)) (two_of s.1)) (split_of bs)
 
 abbrev pub size_of : List ℕ → Option Command
-size_of bs = with (number_of bs) (λ p. Some (Size p))
+size_of bs = option_map (λ p. Size p) (number_of bs)
 
 abbrev pub admit_of : List ℕ → Option Command
-admit_of bs = with (three_of bs) (λ t. Some (Admit t.0 t.1 t.2))
+admit_of bs = option_map (λ t. Admit t.0 t.1 t.2) (three_of bs)
 
 abbrev pub withdraw_of : List ℕ → Option Command
-withdraw_of bs = with (two_of bs) (λ t. Some (Withdraw t.0 t.1))
+withdraw_of bs = option_map (λ t. Withdraw t.0 t.1) (two_of bs)
 
 abbrev pub hold_of : List ℕ → Option Command
-hold_of bs = with (number_of bs) (λ p. Some (Hold p))
+hold_of bs = option_map (λ p. Hold p) (number_of bs)
 
 abbrev pub lift_of : List ℕ → Option Command
-lift_of bs = with (number_of bs) (λ p. Some (Lift p))
+lift_of bs = option_map (λ p. Lift p) (number_of bs)
 
 abbrev pub label_of : List ℕ → Option Command
-label_of bs = with (two_of bs) (λ t. Some (Label t.0 t.1))
+label_of bs = option_map (λ t. Label t.0 t.1) (two_of bs)
 
 -- by the letters n, a, w, h, l, m
 abbrev pub by_letter : ℕ → List ℕ → Option Command
