@@ -8,7 +8,7 @@ use Rattle.catalogue.specs.Refusals.{answer}
 use Rattle.catalogue.specs.declared.refusal.Refusal.TheVariants.{NotCommand}
 use Rattle.console.specs.declared.command.Command.{Command}
 use Rattle.console.specs.declared.command.Command.TheVariants.{Size, Admit, Withdraw, Hold, Lift, Label}
-use Rattle.console.specs.Grammar.{Exactly, Fits, admit_of, by_letter, command_of, field, number_of, opened, or_16, three_of, two_of, written}
+use Rattle.console.specs.Grammar.{Exactly, Fits, admit_of, by_letter, command_of, field, number_of, opened, three_of, two_of, written}
 use Rattle.console.proofs.Fields.{three_all, three_some, two_all, two_some, map_some}
 use Rattle.console.proofs.Numbers.{number_all, number_some}
 
@@ -112,6 +112,6 @@ long_none line long =
 pub cut_same : (line rest : List ℕ) → length line ≡ 65 → command_of (line ++ rest) ≡ command_of line
 cut_same line rest size = long_none (line ++ rest) (omega (arith, length-append line rest)) ∙ sym (long_none line (omega arith))
 
-pub answered : (o : Option Command) → answer (ok_or o NotCommand) ≡ or_16 o
+pub answered : (o : Option Command) → answer (ok_or o NotCommand) ≡ ok_or o 16
 answered None = refl
 answered (Some c) = refl

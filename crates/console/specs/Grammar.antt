@@ -1,5 +1,5 @@
 -- Which lines are commands.
-use Rattle.std.specs.Prelude.{◌≡◌, ℕ, ◌+◌, ◌-◌, ◌*◌, ◌^◌, ◌<◌, Bool, cond, ◌&&◌, ◌||◌, List, [], ◌∷◌, ◌++◌, length, take, drop, Some, None, Ok, Err, decimal, Option, option_map, option_and_then, position, Result, ◌==◌, ◌≢◌, nat_lt, slice_index}
+use Rattle.std.specs.Prelude.{◌≡◌, ℕ, ◌+◌, ◌-◌, ◌*◌, ◌^◌, ◌<◌, Bool, cond, ◌&&◌, ◌||◌, List, [], ◌∷◌, ◌++◌, length, take, drop, Some, None, Ok, Err, decimal, Option, ok_or, option_map, option_and_then, position, Result, ◌==◌, ◌≢◌, nat_lt, slice_index}
 use Rattle.catalogue.specs.declared.refusal.Refusal.{Refusal}
 use Rattle.catalogue.specs.Refusals.{answer}
 use Rattle.console.specs.declared.command.Command.{Command}
@@ -85,12 +85,8 @@ Fits (Lift p) = p < 2 ^ 32
 Fits (Label f t) = (f < 2 ^ 32) × (t < 2 ^ 32)
 
 -- what a line is: its command, or 16
-abbrev pub or_16 : Option Command → Result Command ℕ
-or_16 None = Err 16
-or_16 (Some c) = Ok c
-
 abbrev pub parsed : List ℕ → Result Command ℕ
-parsed line = or_16 (command_of line)
+parsed line = ok_or (command_of line) 16
 
 -- a line is taken exactly where it is a command's written form, as that command; every other line is 16
 pub record Exactly (line : List ℕ) (r : Result Command Refusal) : Type 0 where
