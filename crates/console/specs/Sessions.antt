@@ -1,5 +1,6 @@
 -- What a line does.
 use Rattle.std.specs.Prelude.{ℕ, cond, ◌||◌, List, length, Some, None, Ok, Err, Option, Result, ◌==◌, nat_lt}
+use Rattle.std.specs.Result.{result_unwrap_or}
 use Rattle.labels.specs.declared.kinds.Minutes.{Minutes}
 use Rattle.labels.specs.Kinds.{minutes_ops, minutes_of}
 use Rattle.catalogue.specs.Meanings.{Meaning}
@@ -58,14 +59,6 @@ abbrev pub then : {A : Type 0} → Result Command ℕ → (Command → Result A 
 then (Ok c) f = f c
 then (Err k) f = Err k
 
-abbrev pub unless_refused : Meaning Minutes → Result Command ℕ → Meaning Minutes
-unless_refused m (Ok c) = left m c
-unless_refused m (Err k) = m
-
-abbrev pub table_unless_refused : Meaning Minutes → Result Command ℕ → List Minutes → List Minutes
-table_unless_refused m (Ok c) old = table_left m c old
-table_unless_refused m (Err k) old = old
-
 -- what a line answers before n is set
 abbrev pub opening : List ℕ → Result ℕ ℕ
 opening line = then (parsed line) sets
@@ -76,7 +69,7 @@ abbrev pub obeyed : Meaning Minutes → ℕ → List ℕ → Result Reply ℕ
 obeyed m cells line = then (parsed line) (executed m cells)
 
 abbrev pub after : Meaning Minutes → List ℕ → Meaning Minutes
-after m line = unless_refused m (parsed line)
+after m line = result_unwrap_or (on_ok (left m) (parsed line)) m
 
 abbrev pub table_after : Meaning Minutes → List ℕ → List Minutes → List Minutes
-table_after m line old = table_unless_refused m (parsed line) old
+table_after m line old = result_unwrap_or (on_ok (λ c. table_left m c old) (parsed line)) old
