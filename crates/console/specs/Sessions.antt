@@ -1,5 +1,6 @@
 -- What a line does.
 use Rattle.std.specs.Prelude.{ℕ, cond, ◌||◌, List, length, Some, None, Ok, Err, Option, Result, ◌==◌, nat_lt}
+use Rattle.std.specs.Option.{option_map_or}
 use Rattle.std.specs.Result.{result_unwrap_or}
 use Rattle.labels.specs.declared.kinds.Minutes.{Minutes}
 use Rattle.labels.specs.Kinds.{minutes_ops, minutes_of}
@@ -33,22 +34,14 @@ call_of (commands.Hold p) = Some (calls.Hold p)
 call_of (commands.Lift p) = Some (calls.Lift p)
 call_of (commands.Label f t) = None
 
-abbrev pub told_by : Meaning Minutes → Option (Call Minutes) → Result Reply ℕ
-told_by m None = Err 16
-told_by m (Some c) = on_ok (λ _. replies.Done) (call_answer minutes_ops m c)
-
-abbrev pub left_by : Meaning Minutes → Option (Call Minutes) → Meaning Minutes
-left_by m None = m
-left_by m (Some c) = step minutes_ops m c
-
 -- what a command answers once n is set, with so many cells to work out labels in; what it leaves of
 -- the catalogue, and of the cells
 abbrev pub executed : Meaning Minutes → ℕ → Command → Result Reply ℕ
 executed m cells (commands.Label f t) = on_ok (λ l. replies.Label l) (label_answer minutes_ops m cells f t)
-executed m cells c = told_by m (call_of c)
+executed m cells c = on_ok (λ _. replies.Done) (option_map_or (call_answer minutes_ops m) (call_of c) (Err 16))
 
 abbrev pub left : Meaning Minutes → Command → Meaning Minutes
-left m c = left_by m (call_of c)
+left m c = option_map_or (step minutes_ops m) (call_of c) m
 
 abbrev pub table_left : Meaning Minutes → Command → List Minutes → List Minutes
 table_left m (commands.Label f t) old = closing_leaves minutes_ops m (label_answer minutes_ops m (length old) f t) old
