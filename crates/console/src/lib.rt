@@ -1,5 +1,5 @@
-// The lines that a user types: which of them are commands, what each does, and the memory in which
-// one is collected.
+// The lines that a user types: which of them are commands, what each does, what is replied, and the
+// memory in which one is collected.
 #![tactic(auto)]
 
 pub mod buffer;

@@ -5,7 +5,7 @@ use std::fmt;
 #[derive(Clone, Copy, PartialEq, Eq, Debug)]
 pub enum Reply {
     Done,
-    // of a pair
+    // the label of a pair of packages
     Label(Minutes),
 }
 
