@@ -1,11 +1,11 @@
 -- Fields are parted at the first space, and numbers hold none. Assumes nothing.
-use Rattle.std.proofs.Common.{◌≡◌, ℕ, ◌+◌, ◌^◌, ◌<◌, not, eqb, List, [], ◌∷◌, ◌++◌, length, take, drop, Some, None, decimal, Option, option_map, option_and_then, sym, refl, ap, ◌∙◌, subst, arith}
+use Rattle.std.proofs.Common.{◌≡◌, ℕ, ◌+◌, ◌^◌, ◌<◌, eqb, List, [], ◌∷◌, ◌++◌, length, take, drop, Some, None, decimal, Option, option_map, sym, refl, ap, ◌∙◌, subst, arith}
 use Rattle.std.specs.List.{position, position_or_len}
 use Rattle.std.proofs.lemmas.Fmt.{digits_decimal}
 use Rattle.std.proofs.lemmas.Option.{none-some, option_and_then_some, same_Some}
+use Rattle.std.proofs.lemmas.Grind.{common_steps}
 use Rattle.std.proofs.lemmas.List.Quantifiers.{position-Some}
-use Rattle.std.proofs.lemmas.List.{append_assoc, drop_at, drop_more, length-append, length_push, take-append-drop, take_at}
-use Rattle.std.proofs.lemmas.Bool.{cond-true, eqb-true, lt-ltb, ne_eqb}
+use Rattle.std.proofs.lemmas.List.{append_assoc, drop_at, length-append, length_push, take_at}
 use Rattle.console.specs.Grammar.{field, number_of, split_of, three_of, two_of}
 use Rattle.console.proofs.Numbers.{Figures, number_all, number_some, own}
 
@@ -16,9 +16,7 @@ map_some f (Some x) y e = (x, refl, same_Some (f x) y e)
 -- digits hold no space
 space_past : (ds rest : List ℕ) → Figures ds → position_or_len (λ b. eqb b 32) (ds ++ (32 ∷ rest)) ≡ length ds
 space_past [] rest figs = refl
-space_past (d ∷ ds) rest figs =
-    let later = space_past ds rest figs.1 in
-    cond-true (not (eqb d 32)) _ _ (ap not (ne_eqb d 32 (λ e. omega (arith, figs.0.0)))) ∙ omega arith
+space_past (d ∷ ds) rest figs = grind (arith, space_past ds rest figs.1)
 
 -- a number as written, a space and the rest
 split_some : (bs : List ℕ) (s : ℕ × List ℕ) → split_of bs ≡ Some s → (bs ≡ decimal s.0 ++ (32 ∷ s.1)) × (s.0 < 2 ^ 32)
@@ -28,20 +26,15 @@ split_some bs s e =
     let m = map_some (λ n. (n, drop (k + 1) bs)) (number_of (take k bs)) s here in
     let n = number_some (take k bs) m.0 m.1 in
     let P : ℕ × List ℕ → Type 0 = λ t. (bs ≡ decimal t.0 ++ (32 ∷ t.1)) × (t.0 < 2 ^ 32) in
-    let parted : bs ≡ take k bs ++ (32 ∷ drop (k + 1) bs) = sym (take-append-drop k bs) ∙ ap (λ ys. take k bs ++ ys) (drop_more bs k 0 space.0 ∙ ap (λ b. b ∷ drop (k + 1) bs) (eqb-true _ 32 space.1)) in
+    let parted : bs ≡ take k bs ++ (32 ∷ drop (k + 1) bs) = grind (arith, common_steps) in
     subst P m.2 (parted ∙ ap (λ ys. ys ++ (32 ∷ drop (k + 1) bs)) n.0, n.1))
 
 split_all : (n : ℕ) (rest : List ℕ) → n < 2 ^ 32 → split_of (decimal n ++ (32 ∷ rest)) ≡ Some (n, rest)
 split_all n rest small =
     let ds = decimal n in
-    let bs = ds ++ (32 ∷ rest) in
     let is = space_past ds rest (digits_decimal own n (omega arith)) in
-    let at : position (λ b. eqb b 32) bs ≡ Some (length ds) = cond-true _ _ _ (lt-ltb _ (length bs) (omega (arith, is, length-append ds (32 ∷ rest)))) ∙ ap Some is in
-    let after : drop (length ds + 1) bs ≡ rest = ap (drop (length ds + 1)) (sym (append_assoc ds (32 ∷ []) rest)) ∙ drop_at (ds ++ (32 ∷ [])) rest (length ds + 1) (length_push ds 32) in
-    ap (option_and_then (λ k. option_map (λ m. (m, drop (k + 1) bs)) (number_of (take k bs)))) at
-    ∙ ap (λ ys. option_map (λ m. (m, drop (length ds + 1) bs)) (number_of ys)) (take_at ds (32 ∷ rest) (length ds) refl)
-    ∙ ap (option_map (λ m. (m, drop (length ds + 1) bs))) (number_all n small)
-    ∙ ap (λ ys. Some (n, ys)) after
+    let after : drop (length ds + 1) (ds ++ (32 ∷ rest)) ≡ rest = ap (drop (length ds + 1)) (sym (append_assoc ds (32 ∷ []) rest)) ∙ drop_at (ds ++ (32 ∷ [])) rest (length ds + 1) (length_push ds 32) in
+    grind (arith, is, after, length-append ds (32 ∷ rest), take_at ds (32 ∷ rest) (length ds) refl, number_all n small)
 
 -- numbers as written, parted by one space each
 pub two_some : (bs : List ℕ) (t : ℕ × ℕ) → two_of bs ≡ Some t → (bs ≡ decimal t.0 ++ field t.1) × ((t.0 < 2 ^ 32) × (t.1 < 2 ^ 32))
@@ -54,7 +47,7 @@ two_some bs t e =
     subst P m.2 (a.0 ∙ ap (λ ys. decimal s.0 ++ (32 ∷ ys)) b.0, (a.1, b.1)))
 
 pub two_all : (m n : ℕ) → m < 2 ^ 32 → n < 2 ^ 32 → two_of (decimal m ++ field n) ≡ Some (m, n)
-two_all m n small small' = ap (option_and_then (λ s. option_map (λ k. (s.0, k)) (number_of s.1))) (split_all m (decimal n) small) ∙ ap (option_map (λ k. (m, k))) (number_all n small')
+two_all m n small small' = grind (arith, split_all m (decimal n), number_all)
 
 pub three_some : (bs : List ℕ) (t : ℕ × ℕ × ℕ) → three_of bs ≡ Some t → (bs ≡ decimal t.0 ++ (field t.1 ++ field t.2)) × ((t.0 < 2 ^ 32) × (t.1 < 2 ^ 32) × (t.2 < 2 ^ 32))
 three_some bs t e =
@@ -66,4 +59,4 @@ three_some bs t e =
     subst P m.2 (a.0 ∙ ap (λ ys. decimal s.0 ++ (32 ∷ ys)) b.0, (a.1, b.1.0, b.1.1)))
 
 pub three_all : (l m n : ℕ) → l < 2 ^ 32 → m < 2 ^ 32 → n < 2 ^ 32 → three_of (decimal l ++ (field m ++ field n)) ≡ Some (l, m, n)
-three_all l m n small small' small'' = ap (option_and_then (λ s. option_map (λ u. (s.0, u.0, u.1)) (two_of s.1))) (split_all l (decimal m ++ field n) small) ∙ ap (option_map (λ u. (l, u.0, u.1))) (two_all m n small' small'')
+three_all l m n small small' small'' = grind (arith, split_all l (decimal m ++ field n), two_all)
