@@ -1,5 +1,6 @@
 -- Fields are parted at the first space, and numbers hold none. Assumes nothing.
 use Rattle.std.proofs.Common.{◌≡◌, ℕ, ◌+◌, ◌^◌, ◌<◌, eqb, List, [], ◌∷◌, ◌++◌, length, take, drop, Some, None, decimal, Option, option_map, sym, refl, ap, ◌∙◌, subst, arith}
+use Rattle.std.specs.Str.Parse.{AllDigits}
 use Rattle.std.specs.List.{position, position_or_len}
 use Rattle.std.proofs.lemmas.Fmt.{digits_decimal}
 use Rattle.std.proofs.lemmas.Option.{none-some, option_and_then_some, same_Some}
@@ -7,14 +8,14 @@ use Rattle.std.proofs.lemmas.Grind.{common_steps}
 use Rattle.std.proofs.lemmas.List.Quantifiers.{position-Some}
 use Rattle.std.proofs.lemmas.List.{append_assoc, drop_at, length-append, length_push, take_at}
 use Rattle.console.specs.Grammar.{field, number_of, split_of, three_of, two_of}
-use Rattle.console.proofs.Numbers.{Figures, number_all, number_some, own}
+use Rattle.console.proofs.Numbers.{number_all, number_some, own}
 
 pub map_some : {X Y : Type 0} (f : X → Y) (o : Option X) (y : Y) → option_map f o ≡ Some y → (x : X) × (o ≡ Some x) × (f x ≡ y)
 map_some f None y e = absurd (none-some y e)
 map_some f (Some x) y e = (x, refl, same_Some (f x) y e)
 
 -- digits hold no space
-space_past : (ds rest : List ℕ) → Figures ds → position_or_len (λ b. eqb b 32) (ds ++ (32 ∷ rest)) ≡ length ds
+space_past : (ds rest : List ℕ) → AllDigits 10 ds → position_or_len (λ b. eqb b 32) (ds ++ (32 ∷ rest)) ≡ length ds
 space_past [] rest figs = refl
 space_past (d ∷ ds) rest figs = grind (arith, space_past ds rest figs.1)
 

@@ -1,33 +1,27 @@
 -- A number is read from just the bytes that write it in decimal. Assumes nothing.
-use Rattle.std.proofs.Common.{◌≡◌, ℕ, ◌+◌, ◌-◌, ◌*◌, ◌^◌, ◌<◌, ◌≤◌, List, [], ◌∷◌, Some, decimal, refl, arith, rules}
-use Rattle.std.specs.Int.{IsInRange}
+use Rattle.std.proofs.Common.{◌≡◌, ℕ, ◌+◌, ◌*◌, ◌^◌, ◌<◌, ◌≤◌, List, [], ◌∷◌, Some, decimal, refl, arith}
+use Rattle.std.specs.Str.Parse.{AllDigits, digits_value, digits_value_after}
+use Rattle.std.specs.Char.{digit_value}
 use Rattle.std.proofs.lemmas.Fmt.{decimal_digit, decimal_nonempty, decimal-digits_value, digits_decimal, first_decimal, digits_value-decimal}
 use Rattle.std.proofs.lemmas.Option.{same_Some}
-use Rattle.std.proofs.lemmas.Str.Parse.{IsNumeralModel, numerals_by_fold}
+use Rattle.std.proofs.lemmas.Str.Parse.{IsNumeralModel, digit_from_value, numerals_by_value, tells_digits}
+use Rattle.std.proofs.lemmas.Str.{digit_value_digit}
 use Rattle.console.specs.Grammar.{digits_of, number_of}
 
-abbrev pub Figures : List ℕ → Type 0
-Figures [] = Unit {0}
-Figures (b ∷ bs) = IsInRange 48 57 b × Figures bs
+pub own : IsNumeralModel (AllDigits 10) (digits_value 10)
+own = numerals_by_value (AllDigits 10) tells_digits
 
-abbrev pub read_on : ℕ → List ℕ → ℕ
-read_on sum [] = sum
-read_on sum (b ∷ bs) = read_on (sum * 10 + (b - 48)) bs
+value_ge : (sum : ℕ) (bs : List ℕ) → sum ≤ digits_value_after 10 sum bs
+value_ge sum [] = omega arith
+value_ge sum (b ∷ bs) = omega (arith, value_ge (sum * 10 + digit_value b) bs)
 
-pub own : IsNumeralModel Figures (read_on 0)
-own = numerals_by_fold Figures (search rules) read_on (search rules)
-
-read_on_ge : (sum : ℕ) (bs : List ℕ) → sum ≤ read_on sum bs
-read_on_ge sum [] = omega arith
-read_on_ge sum (b ∷ bs) = omega (arith, read_on_ge (sum * 10 + (b - 48)) bs)
-
-digits_some : (sum : ℕ) (bs : List ℕ) (n : ℕ) → sum < 2 ^ 32 → digits_of sum bs ≡ Some n → Figures bs × (read_on sum bs ≡ n) × (n < 2 ^ 32)
+digits_some : (sum : ℕ) (bs : List ℕ) (n : ℕ) → sum < 2 ^ 32 → digits_of sum bs ≡ Some n → AllDigits 10 bs × (digits_value_after 10 sum bs ≡ n) × (n < 2 ^ 32)
 digits_some sum [] n small e = grind (arith, same_Some sum n)
-digits_some sum (b ∷ bs) n small e = grind (arith, digits_some (sum * 10 + (b - 48)) bs n)
+digits_some sum (b ∷ bs) n small e = grind (arith, digits_some (sum * 10 + digit_value b) bs n, digit_value_digit b)
 
-digits_all : (sum : ℕ) (bs : List ℕ) → Figures bs → read_on sum bs < 2 ^ 32 → digits_of sum bs ≡ Some (read_on sum bs)
+digits_all : (sum : ℕ) (bs : List ℕ) → AllDigits 10 bs → digits_value_after 10 sum bs < 2 ^ 32 → digits_of sum bs ≡ Some (digits_value_after 10 sum bs)
 digits_all sum [] figs small = refl
-digits_all sum (b ∷ bs) figs small = grind (arith, digits_all (sum * 10 + (b - 48)) bs figs.1 small, read_on_ge (sum * 10 + (b - 48)) bs)
+digits_all sum (b ∷ bs) figs small = grind (arith, digits_all (sum * 10 + digit_value b) bs figs.1 small, value_ge (sum * 10 + digit_value b) bs, digit_value_digit b, digit_from_value b)
 
 pub number_some : (bs : List ℕ) (n : ℕ) → number_of bs ≡ Some n → (bs ≡ decimal n) × (n < 2 ^ 32)
 number_some bs n e = grind (arith, digits_some 0 bs n, decimal-digits_value own bs)
