@@ -1,5 +1,6 @@
 -- Which lines are commands.
 use Rattle.std.specs.Prelude.{◌≡◌, ℕ, ◌+◌, ◌-◌, ◌*◌, ◌^◌, ◌<◌, Bool, cond, ◌&&◌, ◌||◌, List, [], ◌∷◌, ◌++◌, length, take, drop, Some, None, Ok, Err, decimal, Option, ok_or, option_map, option_and_then, position, Result, ◌==◌, ◌≢◌, nat_lt, slice_index}
+use Rattle.std.specs.Char.{is_ascii_digit}
 use Rattle.catalogue.specs.declared.refusal.Refusal.{Refusal}
 use Rattle.catalogue.specs.Refusals.{answer}
 use Rattle.console.specs.declared.command.Command.{Command}
@@ -7,7 +8,7 @@ use Rattle.console.specs.declared.command.Command.TheVariants.{Size, Admit, With
 
 -- the number with one more digit, below 2 ^ 32
 abbrev pub grow : ℕ → ℕ → Option ℕ
-grow sum b = cond (nat_lt b 48 || nat_lt 57 b) None (cond (nat_lt 4294967295 (sum * 10 + (b - 48))) None (Some (sum * 10 + (b - 48))))
+grow sum b = cond (is_ascii_digit b && nat_lt (sum * 10 + (b - 48)) (2 ^ 32)) (Some (sum * 10 + (b - 48))) None
 
 -- the number that begins with sum and goes on in digits
 abbrev pub digits_of : ℕ → List ℕ → Option ℕ
