@@ -6,6 +6,12 @@ pub trait Kind: Label {
     // The word of the label none.
     const NO_WORD: u32;
 
+    // Can a chain of arcs be none?
+    const LOSES: bool;
+
+    // Can a longer chain change a pair's label that is not none?
+    const CHANGES: bool;
+
     fn join_words(a: u32, b: u32) -> u32;
 
     fn extend_words(a: u32, b: u32) -> u32;
@@ -17,6 +23,10 @@ pub trait Kind: Label {
 // 0 is no, 1 is yes.
 impl Kind for Reach {
     const NO_WORD: u32 = 0;
+
+    const LOSES: bool = false;
+
+    const CHANGES: bool = false;
 
     fn join_words(a: u32, b: u32) -> u32 {
         a | b
@@ -33,6 +43,10 @@ impl Kind for Reach {
 
 impl Kind for Minutes {
     const NO_WORD: u32 = u32::MAX;
+
+    const LOSES: bool = true;
+
+    const CHANGES: bool = true;
 
     fn join_words(a: u32, b: u32) -> u32 {
         a.min(b)
@@ -56,6 +70,10 @@ impl Kind for Minutes {
 impl Kind for Licence {
     const NO_WORD: u32 = u32::MAX;
 
+    const LOSES: bool = true;
+
+    const CHANGES: bool = true;
+
     fn join_words(a: u32, b: u32) -> u32 {
         a & b
     }
@@ -64,13 +82,22 @@ impl Kind for Licence {
         a | b
     }
 
-    fn word(small: u32, _rolls: &mut Rolls) -> u32 {
-        small
+    // Half of the masks are so full that a chain can have every bit.
+    fn word(small: u32, rolls: &mut Rolls) -> u32 {
+        if rolls.below(2) == 0 {
+            small
+        } else {
+            !small.max(1)
+        }
     }
 }
 
 impl Kind for Width {
     const NO_WORD: u32 = 0;
+
+    const LOSES: bool = false;
+
+    const CHANGES: bool = true;
 
     fn join_words(a: u32, b: u32) -> u32 {
         a.max(b)

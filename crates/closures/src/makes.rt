@@ -3,7 +3,7 @@ use crate::chains::Chains;
 use crate::closed::check_closed;
 use crate::kinds::Kind;
 use crate::scenes::{PLACES, admission, any_call, in_force, labelled};
-use cases::{Frozen, Reference, Rolls, Width, blank, check, count, empty_ledger};
+use cases::{Frozen, Reference, Rolls, Width, blank, check, check_eq, count, empty_ledger};
 use catalogue::{Call, Catalogue, Holding, Layer, Ledger, Make, Sheet, Turned, run};
 use labels::{Licence, Minutes, Reach};
 use paths::Arc;
@@ -23,7 +23,7 @@ struct Scene<K> {
     kind: PhantomData<K>,
 }
 
-// In how many catalogues something was seen.
+// In how many catalogues of one make something was seen.
 #[derive(Clone, Copy, Default)]
 struct Seen {
     // a chain back to its start
@@ -38,13 +38,29 @@ struct Seen {
     changed: usize,
 }
 
+impl Seen {
+    // Of any make.
+    fn check<K: Kind>(&self) -> Result<(), Fail> {
+        check(self.loops > 0)?;
+        check(self.parallel > 0)?;
+        check_eq(self.lost > 0, K::LOSES)?;
+        check_eq(self.changed > 0, K::CHANGES)
+    }
+
+    // Of a make that can hold.
+    fn check_with_holds<K: Kind>(&self) -> Result<(), Fail> {
+        check(self.hidden > 0)?;
+        self.check::<K>()
+    }
+}
+
 impl<K: Kind> Scene<K> {
     fn new(heap: Global, rolls: &mut Rolls) -> Result<Scene<K>, AllocError> {
         let n = rolls.below(4).saturating_add(1);
         Ok(Scene {
             heap,
             n,
-            first: (0..4).map(|_| admission::<K>(rolls, n)).collect(heap)?,
+            first: (0..6).map(|_| admission::<K>(rolls, n)).collect(heap)?,
             then: (0..6).map(|_| any_call::<K>(rolls, n)).collect(heap)?,
             kind: PhantomData,
         })
@@ -125,6 +141,18 @@ impl<K: Kind> Scene<K> {
         reference.seal();
         self.check(&mut top, reference, seen)
     }
+
+    // Layers over the sheet of a ledger's arcs: the calls after them only hold and lift.
+    fn check_stack_on_sheet(&self, seen: &mut Seen) -> Result<(), Fail> {
+        let mut reference = self.reference(32)?;
+        let arcs = in_force(self.heap, &reference)?;
+        let bytes = sheet_bytes(self.heap, self.n, arcs.as_slice())?;
+        let sheet = Sheet::<K>::make(bytes.as_slice())?;
+        let mut top = Turned::over(Holding::over(sheet));
+        reference.seal();
+        reference.turn();
+        self.check(&mut top, reference, seen)
+    }
 }
 
 // Compares with the chains of these arcs, which are those in force.
@@ -178,49 +206,47 @@ fn parallel(arcs: &[Arc<u32>]) -> bool {
     })
 }
 
-fn check_makes<K: Kind>(heap: Global) -> Result<Seen, Fail> {
+// What is seen where one make is checked in every scene.
+fn seen_over<K: Kind, F: Fn(&Scene<K>, &mut Seen) -> Result<(), Fail>>(
+    heap: Global,
+    check_make: F,
+) -> Result<Seen, Fail>
+    requires { F.IsAlwaysCallable check_make }
+{
     let mut rolls = Rolls::new(20);
     let mut seen = Seen::default();
     for _ in 0..SCENES {
-        let scene = Scene::<K>::new(heap, &mut rolls)?;
-        scene.check_ledger(&mut seen)?;
-        scene.check_sheet(&mut seen)?;
-        scene.check_turned(&mut seen)?;
-        scene.check_holding(&mut seen)?;
-        scene.check_stack(&mut seen)?;
+        let scene = Scene::new(heap, &mut rolls)?;
+        check_make(&scene, &mut seen)?;
     }
-    check(seen.loops > 0)?;
-    check(seen.parallel > 0)?;
-    check(seen.hidden > 0)?;
     Ok(seen)
+}
+
+fn check_makes<K: Kind>(heap: Global) -> Result<(), Fail> {
+    seen_over(heap, Scene::<K>::check_ledger)?.check::<K>()?;
+    seen_over(heap, Scene::<K>::check_sheet)?.check::<K>()?;
+    seen_over(heap, Scene::<K>::check_turned)?.check::<K>()?;
+    seen_over(heap, Scene::<K>::check_holding)?.check_with_holds::<K>()?;
+    seen_over(heap, Scene::<K>::check_stack)?.check_with_holds::<K>()?;
+    seen_over(heap, Scene::<K>::check_stack_on_sheet)?.check_with_holds::<K>()
 }
 
 #[test]
 fn reach(rt: HostRuntime) -> Result<(), Fail> {
-    let seen = check_makes::<Reach>(rt.alloc())?;
-    assert_eq!(rt; seen.lost, 0);
-    assert_eq!(rt; seen.changed, 0);
-    Ok(())
+    check_makes::<Reach>(rt.alloc())
 }
 
 #[test]
 fn minutes(rt: HostRuntime) -> Result<(), Fail> {
-    let seen = check_makes::<Minutes>(rt.alloc())?;
-    assert!(rt; seen.lost > 0);
-    assert!(rt; seen.changed > 0);
-    Ok(())
+    check_makes::<Minutes>(rt.alloc())
 }
 
 #[test]
 fn licence(rt: HostRuntime) -> Result<(), Fail> {
-    let seen = check_makes::<Licence>(rt.alloc())?;
-    assert!(rt; seen.changed > 0);
-    Ok(())
+    check_makes::<Licence>(rt.alloc())
 }
 
 #[test]
 fn width(rt: HostRuntime) -> Result<(), Fail> {
-    let seen = check_makes::<Width>(rt.alloc())?;
-    assert!(rt; seen.changed > 0);
-    Ok(())
+    check_makes::<Width>(rt.alloc())
 }
