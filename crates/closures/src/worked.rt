@@ -9,10 +9,10 @@ use closing::row;
 use labels::{Licence, Minutes, Reach};
 use paths::Arc;
 use runs::close_both;
-use std::alloc::Global;
+use std::alloc::{AllocError, Global};
 use std::test::Fail;
 
-const NONE: u32 = 4294967295;
+pub(crate) const NONE: u32 = 4294967295;
 
 // A pair of packages, and the word of its label.
 fn pair(from: u32, to: u32, label: u32) -> Arc<u32> {
@@ -66,17 +66,24 @@ fn check_case<K: Kind>(
     Ok(())
 }
 
-// A ledger of five packages, and one more call.
-fn five(then: Call<u32>) -> [Call<u32>; 7] {
-    [
-        Call::Admit(0, 1, 4),
-        Call::Admit(1, 2, 3),
-        Call::Admit(0, 2, 9),
-        Call::Admit(2, 3, 1),
-        Call::Admit(3, 2, 2),
-        Call::Admit(4, 0, 5),
-        then,
-    ]
+// The arcs of five packages: the ends and the minutes of each.
+const FIVE: [(u32, u32, u32); 6] = [
+    (0, 1, 4),
+    (1, 2, 3),
+    (0, 2, 9),
+    (2, 3, 1),
+    (3, 2, 2),
+    (4, 0, 5),
+];
+
+// Admits those arcs, and makes further calls.
+fn five(heap: Global, then: &[Call<u32>]) -> Result<Vec<Call<u32>>, AllocError> {
+    let mut calls: Vec<_> = FIVE
+        .iter()
+        .map(|(from, to, minutes)| Call::Admit(*from, *to, *minutes))
+        .collect(heap)?;
+    calls.extend_from_slice(then)?;
+    Ok(calls)
 }
 
 #[test]
@@ -91,25 +98,25 @@ fn five_packages(rt: HostRuntime) -> Result<(), Fail> {
         pair(0, 1, 4),
     ];
     let heap = rt.alloc();
-    check_case::<Minutes>(heap, 5, &five(Call::Lift(0)), 4, &pairs)?;
+    let calls = five(heap, &[])?;
+    check_case::<Minutes>(heap, 5, calls.as_slice(), 4, &pairs)?;
     // a worse arc beside another changes nothing
-    check_case::<Minutes>(heap, 5, &five(Call::Admit(0, 1, 6)), 4, &pairs)?;
+    let calls = five(heap, &[Call::Admit(0, 1, 6)])?;
+    check_case::<Minutes>(heap, 5, calls.as_slice(), 4, &pairs)?;
+    let calls = five(heap, &[Call::Hold(1)])?;
     let held = [pair(4, 3, 15), pair(0, 1, NONE), pair(1, 2, NONE)];
-    check_case::<Minutes>(heap, 5, &five(Call::Hold(1)), 3, &held)
+    check_case::<Minutes>(heap, 5, calls.as_slice(), 3, &held)
 }
 
 #[test]
 fn five_packages_reached(rt: HostRuntime) -> Result<(), Fail> {
-    let calls = [
-        Call::Admit(0, 1, 1),
-        Call::Admit(1, 2, 1),
-        Call::Admit(0, 2, 1),
-        Call::Admit(2, 3, 1),
-        Call::Admit(3, 2, 1),
-        Call::Admit(4, 0, 1),
-    ];
+    let heap = rt.alloc();
+    let calls: Vec<_> = FIVE
+        .iter()
+        .map(|(from, to, _)| Call::Admit(*from, *to, 1))
+        .collect(heap)?;
     let pairs = [pair(4, 3, 1), pair(2, 2, 1), pair(0, 0, 0), pair(3, 4, 0)];
-    check_case::<Reach>(rt.alloc(), 5, &calls, 3, &pairs)
+    check_case::<Reach>(heap, 5, calls.as_slice(), 3, &pairs)
 }
 
 #[test]
