@@ -14,4 +14,6 @@ mod scenes;
 #[cfg(test)]
 mod short;
 #[cfg(test)]
+mod steps;
+#[cfg(test)]
 mod worked;

@@ -6,15 +6,16 @@ use closing::{by_elimination, by_rounds, label_of, row};
 use labels::Minutes;
 use std::alloc::{AllocError, Global};
 use std::fmt::Debug;
+use std::ops::Range;
 use std::test::Fail;
 
 // Cells that all differ.
-fn numbered(heap: Global, cells: u32) -> Result<Vec<Minutes>, AllocError> {
-    (0..cells).map(|value| Minutes { value }).collect(heap)
+pub(crate) fn numbered(heap: Global, values: Range<u32>) -> Result<Vec<Minutes>, AllocError> {
+    values.map(|value| Minutes { value }).collect(heap)
 }
 
-fn check_numbered(table: &[Minutes], cells: u32) -> Result<(), Fail> {
-    check(table.iter().map(|cell| cell.value).eq(0..cells))
+pub(crate) fn check_numbered(cells: &[Minutes], values: Range<u32>) -> Result<(), Fail> {
+    check(cells.iter().map(|cell| cell.value).eq(values))
 }
 
 // Closes into tables of so many cells, too few in one of them.
@@ -23,9 +24,9 @@ fn check_short<C: Catalogue<Label = Minutes>>(
     heap: Global,
     (table_cells, changed_cells, found_cells): (u32, u32, u32),
 ) -> Result<(), Fail> {
-    let mut table = numbered(heap, table_cells)?;
-    let mut changed = numbered(heap, changed_cells)?;
-    let mut found = numbered(heap, found_cells)?;
+    let mut table = numbered(heap, 0..table_cells)?;
+    let mut changed = numbered(heap, 0..changed_cells)?;
+    let mut found = numbered(heap, 0..found_cells)?;
     let answer = by_rounds(
         c,
         table.as_mut_slice(),
@@ -33,9 +34,9 @@ fn check_short<C: Catalogue<Label = Minutes>>(
         found.as_mut_slice(),
     );
     check_eq(answer, Err(Refusal::ShortBuffer))?;
-    check_numbered(table.as_slice(), table_cells)?;
-    check_numbered(changed.as_slice(), changed_cells)?;
-    check_numbered(found.as_slice(), found_cells)
+    check_numbered(table.as_slice(), 0..table_cells)?;
+    check_numbered(changed.as_slice(), 0..changed_cells)?;
+    check_numbered(found.as_slice(), 0..found_cells)
 }
 
 #[test]
@@ -49,18 +50,18 @@ fn short_tables(rt: HostRuntime) -> Result<(), Fail> {
     check_short(&ledger, heap, (9, 8, 9))?;
     check_short(&ledger, heap, (9, 9, 8))?;
     check_short(&ledger, heap, (0, 30, 30))?;
-    let mut table = numbered(heap, 8)?;
+    let mut table = numbered(heap, 0..8)?;
     assert_eq!(rt;
         by_elimination(&ledger, table.as_mut_slice()),
         Err(Refusal::ShortBuffer)
     );
-    check_numbered(table.as_slice(), 8)?;
+    check_numbered(table.as_slice(), 0..8)?;
     assert_eq!(rt;
         label_of(&ledger, table.as_mut_slice(), 0, 1),
         Err(Refusal::ShortBuffer)
     );
-    check_numbered(table.as_slice(), 8)?;
-    let mut table = numbered(heap, 9)?;
+    check_numbered(table.as_slice(), 0..8)?;
+    let mut table = numbered(heap, 0..9)?;
     assert_eq!(rt;
         label_of(&ledger, table.as_mut_slice(), 0, 3),
         Err(Refusal::NoPackage)
@@ -69,7 +70,7 @@ fn short_tables(rt: HostRuntime) -> Result<(), Fail> {
         label_of(&ledger, table.as_mut_slice(), 3, 0),
         Err(Refusal::NoPackage)
     );
-    check_numbered(table.as_slice(), 9)?;
+    check_numbered(table.as_slice(), 0..9)?;
     Ok(())
 }
 
@@ -91,8 +92,8 @@ fn rows(rt: HostRuntime) -> Result<(), Fail> {
     check_rows(&[0u8; 8], &bytes)?;
     assert_eq!(rt; row(&bytes, 3, 1), Ok([3u8, 4, 5].as_slice()));
     let heap = rt.alloc();
-    let short = numbered(heap, 8)?;
-    let table = numbered(heap, 9)?;
+    let short = numbered(heap, 0..8)?;
+    let table = numbered(heap, 0..9)?;
     check_rows(short.as_slice(), table.as_slice())?;
     Ok(())
 }
