@@ -82,7 +82,7 @@ impl Kind for Licence {
         a | b
     }
 
-    // Half of the masks are so full that a chain can have every bit.
+    // Half of the masks are so full that a chain can have every bit; no mask has.
     fn word(small: u32, rolls: &mut Rolls) -> u32 {
         if rolls.below(2) == 0 {
             small

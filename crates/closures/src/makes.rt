@@ -142,7 +142,8 @@ impl<K: Kind> Scene<K> {
         self.check(&mut top, reference, seen)
     }
 
-    // Layers over the sheet of a ledger's arcs: the calls after them only hold and lift.
+    // Layers over the sheet of a ledger's arcs: of the calls after them only holds and lifts are
+    // taken.
     fn check_stack_on_sheet(&self, seen: &mut Seen) -> Result<(), Fail> {
         let mut reference = self.reference(32)?;
         let arcs = in_force(self.heap, &reference)?;
@@ -206,7 +207,7 @@ fn parallel(arcs: &[Arc<u32>]) -> bool {
     })
 }
 
-// What is seen where one make is checked in every scene.
+// What one make comes by over all scenes.
 fn seen_over<K: Kind, F: Fn(&Scene<K>, &mut Seen) -> Result<(), Fail>>(
     heap: Global,
     check_make: F,
