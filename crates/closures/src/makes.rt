@@ -11,7 +11,7 @@ use std::alloc::{AllocError, Global};
 use std::marker::PhantomData;
 use std::test::Fail;
 
-const SCENES: u32 = 60;
+const SCENES: u32 = 200;
 
 // The calls before layers are laid, which only admit, and those after.
 #[derive(Drop)]
