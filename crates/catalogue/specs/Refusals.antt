@@ -33,6 +33,11 @@ abbrev pub on_ok : {A B : Type 0} → (A → B) → Result A ℕ → Result B �
 on_ok f (Ok v) = Ok (f v)
 on_ok f (Err k) = Err k
 
+-- a further answer about what was taken
+abbrev pub then : {A B : Type 0} → Result A ℕ → (A → Result B ℕ) → Result B ℕ
+then (Ok v) f = f v
+then (Err k) f = Err k
+
 -- what was made, by what it means
 abbrev pub meant : {S M : Type 0} → (S → M) → Result S Refusal → Result M ℕ
 meant meaning (Ok s) = Ok (meaning s)

@@ -2,6 +2,7 @@
 use Rattle.std.specs.Prelude.{ℕ, List, Ok, Err, Result}
 use Rattle.labels.specs.declared.kinds.Minutes.{Minutes}
 use Rattle.labels.specs.Kinds.{minutes_ops, minutes_named}
+use Rattle.catalogue.specs.Refusals.{then}
 use Rattle.catalogue.specs.Meanings.{Meaning}
 use Rattle.catalogue.specs.Makings.{first_meaning, sheet_of}
 use Rattle.tables.specs.Closings.{elimination_answer, rounds_answer, closing_leaves}
@@ -10,28 +11,18 @@ use Rattle.tables.specs.Closings.{elimination_answer, rounds_answer, closing_lea
 abbrev pub read : List ℕ → Result (Meaning Minutes) ℕ
 read bytes = first_meaning minutes_ops minutes_named (sheet_of bytes)
 
--- what a closing of it answers
-abbrev pub closing_of : {A : Type 0} → Result (Meaning Minutes) ℕ → (Meaning Minutes → Result A ℕ) → Result A ℕ
-closing_of (Ok m) f = f m
-closing_of (Err k) f = Err k
-
 abbrev pub elimination_of : List ℕ → ℕ → Result (Unit {0}) ℕ
-elimination_of bytes cells = closing_of (read bytes) (λ m. elimination_answer minutes_ops m cells)
+elimination_of bytes cells = then (read bytes) (λ m. elimination_answer minutes_ops m cells)
 
 abbrev pub rounds_of : List ℕ → ℕ → ℕ → ℕ → Result ℕ ℕ
-rounds_of bytes cells changed found = closing_of (read bytes) (λ m. rounds_answer minutes_ops m cells changed found)
+rounds_of bytes cells changed found = then (read bytes) (λ m. rounds_answer minutes_ops m cells changed found)
 
--- what a closing with this answer leaves of a table
-abbrev pub closing_of_leaves : {A : Type 0} → Result (Meaning Minutes) ℕ → Result A ℕ → List Minutes → List Minutes
-closing_of_leaves (Ok m) answer old = closing_leaves minutes_ops m answer old
-closing_of_leaves (Err k) answer old = old
+-- what a closing of a sheet with this answer leaves of a table
+abbrev pub sheet_closing_leaves : {A : Type 0} → Result (Meaning Minutes) ℕ → Result A ℕ → List Minutes → List Minutes
+sheet_closing_leaves (Ok m) answer old = closing_leaves minutes_ops m answer old
+sheet_closing_leaves (Err k) answer old = old
 
 -- 0, or the number of the refusal
 abbrev pub status : {A : Type 0} → Result A ℕ → ℕ
 status (Ok v) = 0
 status (Err k) = k
-
--- a number answered, or the old one
-abbrev pub value_or : ℕ → Result ℕ ℕ → ℕ
-value_or old (Ok v) = v
-value_or old (Err k) = old

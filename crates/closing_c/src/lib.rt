@@ -4,3 +4,5 @@
 
 pub mod elimination;
 pub mod rounds;
+#[cfg(test)]
+mod tests;

@@ -76,7 +76,7 @@ const FIVE: [(u32, u32, u32); 6] = [
     (4, 0, 5),
 ];
 
-// Admits those arcs, and makes further calls.
+// The calls that admit those arcs, and further ones.
 fn five(heap: Global, then: &[Call<u32>]) -> Result<Vec<Call<u32>>, AllocError> {
     let mut calls: Vec<_> = FIVE
         .iter()

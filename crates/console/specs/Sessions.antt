@@ -5,7 +5,7 @@ use Rattle.std.specs.Result.{result_unwrap_or}
 use Rattle.labels.specs.declared.kinds.Minutes.{Minutes}
 use Rattle.labels.specs.Kinds.{minutes_ops, minutes_of}
 use Rattle.catalogue.specs.Meanings.{Meaning}
-use Rattle.catalogue.specs.Refusals.{on_ok}
+use Rattle.catalogue.specs.Refusals.{on_ok, then}
 use Rattle.catalogue.specs.declared.call.Call.{Call}
 use Rattle.catalogue.specs.declared.call.Call.TheVariants as calls
 use Rattle.catalogue.specs.Runs.{call_answer, step}
@@ -46,11 +46,6 @@ left m c = option_map_or (step minutes_ops m) (call_of c) m
 abbrev pub table_left : Meaning Minutes → Command → List Minutes → List Minutes
 table_left m (commands.Label f t) old = closing_leaves minutes_ops m (label_answer minutes_ops m (length old) f t) old
 table_left m c old = old
-
--- f of a command; a line that is none keeps its number
-abbrev pub then : {A : Type 0} → Result Command ℕ → (Command → Result A ℕ) → Result A ℕ
-then (Ok c) f = f c
-then (Err k) f = Err k
 
 -- what a line answers before n is set
 abbrev pub opening : List ℕ → Result ℕ ℕ

@@ -6,6 +6,8 @@ use Rattle.catalogue.specs.Meanings.{Meaning}
 use Rattle.catalogue.specs.declared.call.Call.{Call}
 use Rattle.catalogue.specs.Runs.{call_answer, reckon}
 use Rattle.runs.specs.declared.step.Step.{Step}
+use Rattle.runs.specs.declared.step.Outcome.{Outcome}
+use Rattle.runs.specs.declared.step.Outcome.TheVariants as outcomes
 use Rattle.runs.specs.declared.step.Step.TheVariants.{Alter, Rounds, Eliminate}
 use Rattle.tables.specs.Closings.{rounds_answer, elimination_answer, closing_leaves}
 
@@ -26,11 +28,11 @@ abbrev pub lengths : {K : Type 0} → List K → List K → List K → Lengths
 lengths table changed found = record { table = length table; changed = length changed; found = length found }
 
 module _ {K : Type 0} (o : Ops K) where
-  -- whether a call is taken, or the number of its refusal
-  abbrev pub answered : Meaning K → Lengths → Step K → Result (Unit {0}) ℕ
-  answered m t (Alter c) = call_answer o m c
-  answered m t (Rounds cells) = on_ok (λ _. tt) (rounds_answer o m (min cells t.table) (min cells t.changed) (min cells t.found))
-  answered m t (Eliminate cells) = elimination_answer o m (min cells t.table)
+  -- what a call answers that is taken, or the number of its refusal
+  abbrev pub answered : Meaning K → Lengths → Step K → Result Outcome ℕ
+  answered m t (Alter c) = on_ok (λ _. outcomes.Altered) (call_answer o m c)
+  answered m t (Rounds cells) = on_ok (λ made. outcomes.Rounds made) (rounds_answer o m (min cells t.table) (min cells t.changed) (min cells t.found))
+  answered m t (Eliminate cells) = on_ok (λ _. outcomes.Eliminated) (elimination_answer o m (min cells t.table))
 
   -- what a call leaves in the run's label table
   abbrev pub tabled : Meaning K → Lengths → Step K → List K → List K

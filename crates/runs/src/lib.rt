@@ -7,4 +7,4 @@ mod step;
 
 pub use agreement::{Closings, close_both};
 pub use running::{make_call, run};
-pub use step::Step;
+pub use step::{Outcome, Step};

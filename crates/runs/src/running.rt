@@ -6,7 +6,7 @@ ghost use Rattle.catalogue.specs.Runs.{reckon};
 ghost use Rattle.runs.specs.Runs.{alterations, answered, tabled, tables, spares_used, some_spares_used, lengths};
 ghost use Rattle.tables.specs.Closings.{rounds_answer, elimination_answer, closing_leaves};
 
-use crate::step::Step;
+use crate::step::{Outcome, Step};
 use catalogue::{Catalogue, Refusal, make_call as alter};
 use closing::{by_elimination, by_rounds};
 
@@ -27,25 +27,27 @@ pub fn run<C: Catalogue>(
     }
 }
 
-// Makes one call, and answers whether it was taken.
+// Makes one call.
 pub fn make_call<C: Catalogue>(
     catalogue: &mut C,
     call: Step<C::Label>,
     table: &mut [C::Label],
     changed: &mut [C::Label],
     found: &mut [C::Label],
-) -> Result<(), Refusal>
+) -> Result<Outcome, Refusal>
     ensures answers { answer result ≡ answered C.Label.Label.ops (C.Catalogue.meaning catalogue.old) (lengths table.old changed.old found.old) call }
     ensures reckoned { C.Catalogue.meaning catalogue.new ≡ reckon C.Label.Label.ops (C.Catalogue.meaning catalogue.old) (alterations (call ∷ [])) }
     ensures leaves { table.new ≡ tabled C.Label.Label.ops (C.Catalogue.meaning catalogue.old) (lengths table.old changed.old found.old) call table.old }
     ensures spares { spares_used C.Label.Label.ops (C.Catalogue.meaning catalogue.old) (lengths table.old changed.old found.old) call ≡ false → (changed.new ≡ changed.old) × (found.new ≡ found.old) }
 {
     match call {
-        Step::Alter(change) => alter(catalogue, change),
+        Step::Alter(change) => alter(catalogue, change).map(|()| Outcome::Altered),
         Step::Rounds(cells) => {
-            rounds_within(catalogue, cells, table, changed, found).map(|_| ())
+            rounds_within(catalogue, cells, table, changed, found).map(Outcome::Rounds)
         }
-        Step::Eliminate(cells) => eliminate_within(catalogue, cells, table),
+        Step::Eliminate(cells) => {
+            eliminate_within(catalogue, cells, table).map(|()| Outcome::Eliminated)
+        }
     }
 }
 

@@ -8,3 +8,11 @@ pub enum Step<L> {
     Rounds(usize),
     Eliminate(usize),
 }
+
+// What a call of a run answers that is taken: a closing by rounds how many rounds there were.
+#[derive(Clone, Copy, PartialEq, Eq, Debug)]
+pub enum Outcome {
+    Altered,
+    Rounds(usize),
+    Eliminated,
+}

@@ -2,7 +2,7 @@
 use Rattle.std.specs.Prelude.{◌≡◌, ℕ, Bool, false, List, length, is_ok, Ok, Err, Option, Result}
 use Rattle.labels.specs.Algebra.{Ops}
 use Rattle.catalogue.specs.declared.refusal.Refusal.{Refusal}
-use Rattle.catalogue.specs.Refusals.{number, answer, on_ok}
+use Rattle.catalogue.specs.Refusals.{number, answer, on_ok, then}
 use Rattle.catalogue.specs.Meanings.{Meaning}
 use Rattle.catalogue.specs.Makings.{Making, first_meaning}
 use Rattle.catalogue.specs.declared.call.Call.{Call}
@@ -48,8 +48,7 @@ module _ {K : Type 0} (o : Ops K) where
 
   -- the label of a pair after the steps, from that first meaning on
   abbrev pub label_from : Result (Meaning K) ℕ → List (Step K) → ℕ → ℕ → ℕ → Result K ℕ
-  label_from (Ok m) steps cells from to = label_answer o (reckoned o m steps) cells from to
-  label_from (Err k) steps cells from to = Err k
+  label_from first steps cells from to = then first (λ m. label_answer o (reckoned o m steps) cells from to)
 
   -- what that leaves of the label table
   abbrev pub label_leaves : Result (Meaning K) ℕ → List (Step K) → Lengths → ℕ → ℕ → List K → List K
