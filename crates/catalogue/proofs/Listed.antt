@@ -1,21 +1,14 @@
 -- Lists of packages.
 use Rattle.std.proofs.Common.{◌≡◌, ℕ, ◌+◌, Bool, true, false, cond, not, ◌&&◌, ◌||◌, eqb, ltb, List, [], ◌∷◌, ◌++◌, length, filter, sym, refl, ap, ◌∙◌, ⊎_elim, arith}
+use Rattle.std.proofs.Math.Bool.{or_assoc, or-false}
 use Rattle.std.proofs.lemmas.Bool.{lt-ltb, eqb-true, or_from, or_parts, and_parts, and_from, and_right, not-true, cases_Bool, both_ways}
 use Rattle.std.proofs.lemmas.List.Filters.{length-filter_both}
 use Rattle.std.proofs.lemmas.Bool.Decides.{nat_tests}
 use Rattle.std.specs.List.{list_any}
 use Rattle.catalogue.specs.Lists.{within, without, once}
 
-pub or_false : (a : Bool) → (a || false) ≡ a
-or_false true = refl
-or_false false = refl
-
-pub or_assoc : (a b c : Bool) → ((a || b) || c) ≡ (a || (b || c))
-or_assoc true b c = refl
-or_assoc false b c = refl
-
 pub within_push : (xs : List ℕ) (y p : ℕ) → within (xs ++ (y ∷ [])) p ≡ (within xs p || eqb p y)
-within_push [] y p = or_false (eqb p y)
+within_push [] y p = or-false (eqb p y)
 within_push (x ∷ xs) y p = ap (λ b. eqb p x || b) (within_push xs y p) ∙ sym (or_assoc (eqb p x) (within xs p) (eqb p y))
 
 count_within : (xs : List ℕ) (p : ℕ) → ltb 0 (length (filter (λ q. eqb p q) xs)) ≡ within xs p

@@ -22,7 +22,7 @@ pub struct Chains<K> {
 
 impl<K: Kind> Chains<K> {
     // The chains of these arcs.
-    pub fn new(heap: Global, n: u32, arcs: &[Arc<u32>]) -> Result<Chains<K>, AllocError> {
+    pub(crate) fn new(heap: Global, n: u32, arcs: &[Arc<u32>]) -> Result<Chains<K>, AllocError> {
         let mut all: Vec<Chain> = arcs
             .iter()
             .map(|arc| Chain {
@@ -54,7 +54,7 @@ impl<K: Kind> Chains<K> {
         })
     }
 
-    pub fn n(&self) -> u32 {
+    pub(crate) fn n(&self) -> u32 {
         self.n
     }
 
@@ -78,22 +78,22 @@ impl<K: Kind> Chains<K> {
     }
 
     // The least m of 1 or more with L(m + 1) = L(m), if there is one up to n.
-    pub fn rounds(&self) -> Option<usize> {
+    pub(crate) fn rounds(&self) -> Option<usize> {
         (1..=self.n).find(|m| self.still(*m)).map(|m| m as usize)
     }
 
     // Does a chain lead back to its start?
-    pub fn loops(&self) -> bool {
+    pub(crate) fn loops(&self) -> bool {
         self.all.iter().any(|chain| chain.from == chain.to)
     }
 
     // Is the label of a chain none?
-    pub fn lost(&self) -> bool {
+    pub(crate) fn lost(&self) -> bool {
         self.all.iter().any(|chain| chain.word == K::NO_WORD)
     }
 
     // Has a pair another label by shorter chains, which is not none?
-    pub fn changed(&self) -> bool {
+    pub(crate) fn changed(&self) -> bool {
         self.all.iter().any(|chain| {
             let early = self.within(chain.arcs, chain.from, chain.to);
             early != K::NO_WORD && early != self.word(chain.from, chain.to)

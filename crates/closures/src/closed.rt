@@ -12,12 +12,12 @@ use std::test::Fail;
 const CELLS: usize = 30;
 
 // The label that a word names, or none.
-pub fn label<K: Label>(word: u32) -> K {
+pub(crate) fn label<K: Label>(word: u32) -> K {
     K::from_word(word).unwrap_or(K::NONE)
 }
 
 // What stands in a table before it is written to.
-pub fn unwritten<K: Label>(heap: Global) -> Result<Vec<K>, AllocError> {
+pub(crate) fn unwritten<K: Label>(heap: Global) -> Result<Vec<K>, AllocError> {
     Ok(vec![in heap; K::WHOLE; CELLS]?)
 }
 
@@ -56,7 +56,7 @@ fn check_labels<K: Kind, C: Catalogue<Label = K>>(
 }
 
 // Closes in both ways.
-pub fn check_closed<K: Kind, C: Catalogue<Label = K>>(
+pub(crate) fn check_closed<K: Kind, C: Catalogue<Label = K>>(
     heap: Global,
     c: &C,
     chains: &Chains<K>,

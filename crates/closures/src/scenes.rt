@@ -50,7 +50,10 @@ fn in_labels<K: Label>(call: Call<u32>) -> Call<K> {
 
 // The calls with labels in place of words. A loop, since the borrow checker does not cover a `map`
 // whose result names a kind that neither its argument nor what its closure captures names.
-pub fn labelled<K: Label>(heap: Global, calls: &[Call<u32>]) -> Result<Vec<Call<K>>, AllocError> {
+pub(crate) fn labelled<K: Label>(
+    heap: Global,
+    calls: &[Call<u32>],
+) -> Result<Vec<Call<K>>, AllocError> {
     let mut labelled_calls = Vec::new(heap);
     for call in calls {
         labelled_calls.push(in_labels(*call))?;

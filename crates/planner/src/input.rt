@@ -42,7 +42,7 @@ pub struct Input {
 }
 
 impl Input {
-    pub fn new(source: Stdin) -> Input {
+    pub(crate) fn new(source: Stdin) -> Input {
         Input {
             bytes: Bytes {
                 source,

@@ -3,7 +3,7 @@ use Rattle.std.proofs.Common.{◌≡◌, ℕ, ◌+◌, ◌<◌, false, ◌||◌,
 use Rattle.std.proofs.lemmas.Bool.{or_parts}
 use Rattle.std.proofs.lemmas.List.{take_more}
 use Rattle.labels.specs.Algebra.{Ops}
-use Rattle.catalogue.proofs.Listed.{or_assoc, or_false}
+use Rattle.std.proofs.Math.Bool.{or_assoc, or-false}
 use Rattle.catalogue.specs.Meanings.{Meaning}
 use Rattle.catalogue.specs.Runs.{step, reckon}
 use Rattle.runs.specs.declared.step.Step.{Step}
@@ -26,7 +26,7 @@ module _ {K : Type 0} (o : Ops K) where
 
   spares_push : (m : Meaning K) (t : Lengths) (calls : List (Step K)) (c : Step K)
       → some_spares_used o m t (calls ++ (c ∷ [])) ≡ (some_spares_used o m t calls || spares_used o (reckon o m (alterations calls)) t c)
-  spares_push m t [] c = or_false (spares_used o m t c)
+  spares_push m t [] c = or-false (spares_used o m t c)
   spares_push m t (Alter d ∷ calls) c = spares_push (step o m d) t calls c
   spares_push m t (Rounds k ∷ calls) c =
       let here = spares_used o m t (Rounds k) in
