@@ -138,6 +138,7 @@ fn numbers(rt: HostRuntime) {
         (Refusal::NoHolds, 11),
         (Refusal::NotHeld, 12),
         (Refusal::ShortBuffer, 13),
+        (Refusal::Loop, 14),
         (Refusal::NotCommand, 16),
     ];
     for (refusal, number) in numbers {

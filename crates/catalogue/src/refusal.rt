@@ -26,6 +26,8 @@ pub enum Refusal {
     NotHeld = 12,
     // a buffer shorter than the call needs
     ShortBuffer = 13,
+    // a chain leads back to its start
+    Loop = 14,
     // a line that is no command here
     NotCommand = 16,
 }
