@@ -2,11 +2,14 @@ pub mod Joins
 pub mod Members
 pub mod Order
 pub mod Cut
+pub mod Tests
 pub mod Steps
 pub mod Rounds
 pub mod Ways
+pub mod Groups
 pub mod Perms
 pub mod Written
 pub mod Least
 pub mod Closures
 pub mod Eliminated
+pub mod Straight

@@ -40,7 +40,7 @@ inner_all arcs n ends i j [] h = tt
 inner_all arcs n ends i j (a ∷ []) h = tt
 inner_all arcs n ends i j (a ∷ b ∷ c) h = (ends a h.0, inner_all arcs n ends a.to j (b ∷ c) h.2)
 
-chain_append : {K : Type 0} (arcs : List (Arc K)) (i k j : ℕ) (x y : List (Arc K)) → IsChain arcs i k x → IsChain arcs k j y → IsChain arcs i j (x ++ y)
+pub chain_append : {K : Type 0} (arcs : List (Arc K)) (i k j : ℕ) (x y : List (Arc K)) → IsChain arcs i k x → IsChain arcs k j y → IsChain arcs i j (x ++ y)
 chain_append arcs i k j [] y e h = subst (λ v. IsChain arcs v j y) (sym e) h
 chain_append arcs i k j (a ∷ x) y p h = (p.0, p.1, chain_append arcs a.to k j x y p.2 h)
 

@@ -21,19 +21,19 @@ abbrev pub every : (ℕ → Bool) → ℕ → Bool
 every test zero = true
 every test (suc n) = every test n && test n
 
+-- the first number from k on that passes the test, among so many; else the one after them
+abbrev pub first_from : (ℕ → Bool) → ℕ → ℕ → ℕ
+first_from test zero k = k
+first_from test (suc more) k = cond (test k) k (first_from test more (suc k))
+
 module _ {K : Type 0} (o : Ops K) (arcs : List (Arc K)) (n : ℕ) where
   -- is L(m + 1) = L(m) for every pair below n?
   abbrev pub is_still : ℕ → Bool
   is_still m = every (λ i. every (λ j. o.same (L o arcs (suc m) i j) (L o arcs m i j)) n) n
 
-  -- the first from m on that is still, among so many; else the one after them
-  abbrev pub first_still : ℕ → ℕ → ℕ
-  first_still zero m = m
-  first_still (suc more) m = cond (is_still m) m (first_still more (suc m))
-
   -- the least m of 1 or more with L(m + 1) = L(m), which is at most n
   abbrev pub rounds_made : ℕ
-  rounds_made = first_still n 1
+  rounds_made = first_from is_still n 1
 
   pub record LeastStill (m : ℕ) : Type 0 where
     pub some : 1 ≤ m
