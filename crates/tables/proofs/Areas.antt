@@ -8,3 +8,7 @@ row_within n p h = row_fits p n n n h (omega arith)
 -- the rows that are whole
 pub row_whole : (cells n p : ℕ) → p < cells / n → p * n + n ≤ cells
 row_whole cells n p h = omega (arith, row_fits p n (cells / n) n h (omega arith), div-add-mod' cells n)
+
+-- a row ends where a later one starts, or before
+pub row_before : (n p q : ℕ) → p < q → p * n + n ≤ q * n
+row_before n p q h = row_fits p n q n h (omega arith)

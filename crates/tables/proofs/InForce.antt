@@ -10,7 +10,7 @@ use Rattle.paths.specs.Tables.{cell, Shows}
 use Rattle.catalogue.specs.Meanings.{Meaning, ArcOk, Sound, free_ends, in_force}
 use Rattle.catalogue.specs.Calls.{unheld, arc_at}
 
-mem_all : {A : Type 0} (P : A → Type 0) (xs : List A) (a : A) → All P xs → Mem a xs → P a
+pub mem_all : {A : Type 0} (P : A → Type 0) (xs : List A) (a : A) → All P xs → Mem a xs → P a
 mem_all P [] a h m = elim m [ ]
 mem_all P (x ∷ xs) a h (inl e) = subst P (sym e) (All-head P x xs h)
 mem_all P (x ∷ xs) a h (inr m) = mem_all P xs a (All-tail P x xs h) m
@@ -22,7 +22,7 @@ module _ {K : Type 0} (m : Meaning K) where
   if_at P (x ∷ xs) (suc k) h = if_at P xs k h.1
 
   -- an arc that is answered is lawful
-  answered_ok : (o : Ops K) (k : ℕ) (a : Arc K) → Sound o m → Some a ≡ arc_at m k → ArcOk o m.n a
+  pub answered_ok : (o : Ops K) (k : ℕ) (a : Arc K) → Sound o m → Some a ≡ arc_at m k → ArcOk o m.n a
   answered_ok o k a s e = subst (λ r. IfSome r (ArcOk o m.n)) (sym e) (if_at (ArcOk o m.n) m.stock k s.arcs)
 
   -- its ends are below n, which is at most 1024
@@ -51,7 +51,7 @@ module _ {K : Type 0} (m : Meaning K) where
       elim (free_ends m x) as (λ b. cond b (x ∷ keep (take (suc k) xs)) (keep (take (suc k) xs)) ≡ cond b (x ∷ keep (take k xs)) (keep (take k xs)) ++ option_to_list (unheld m (slice_get xs k)))
       [ true ↦ ap (λ r. x ∷ r) (step xs k) | false ↦ step xs k ]
 
-  next : (k : ℕ) (x : Option (Arc K)) → x ≡ arc_at m k → first_arcs (k + 1) ≡ first_arcs k ++ option_to_list x
+  pub next : (k : ℕ) (x : Option (Arc K)) → x ≡ arc_at m k → first_arcs (k + 1) ≡ first_arcs k ++ option_to_list x
   next k x e = rw add-one (step m.stock k ∙ ap (λ y. first_arcs k ++ option_to_list y) (sym e))
 
   -- the cells are the table T of the arcs in force among the first k places; so of all, once k has passed them

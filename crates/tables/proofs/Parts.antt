@@ -25,7 +25,7 @@ pub part_kept : {A : Type 0} (k : ℕ) (old part : List A) → part ≡ take k o
 part_kept k old part is = ap (λ p. p ++ drop k old) is ∙ take-append-drop k old
 
 module _ {K : Type 0} (o : Ops K) (m : Meaning K) where
-  part_left : {A : Type 0} (answer : Result A ℕ) (k : ℕ) (old part : List K) → k ≤ length old → (is_ok answer ≡ true → m.n * m.n ≤ k)
+  pub part_left : {A : Type 0} (answer : Result A ℕ) (k : ℕ) (old part : List K) → k ≤ length old → (is_ok answer ≡ true → m.n * m.n ≤ k)
       → part ≡ closing_leaves o m answer (take k old) → part ++ drop k old ≡ closing_leaves o m answer old
   part_left answer k old part within fits left = ap (λ p. p ++ drop k old) left ∙ go (is_ok answer) fits
     where

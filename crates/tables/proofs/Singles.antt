@@ -14,7 +14,7 @@ use Rattle.tables.proofs.Choosing.{here, elsewhere}
 use Rattle.tables.proofs.InForce.{Along, answered_in, along_some}
 
 -- what one arc adds at a pair
-abbrev alone : {K : Type 0} → Ops K → Arc K → ℕ → ℕ → K
+abbrev pub alone : {K : Type 0} → Ops K → Arc K → ℕ → ℕ → K
 alone o a i j = cond (eqb a.from i) (cond (eqb a.to j) a.label o.none) o.none
 
 module _ {K : Type 0} (o : Ops K) (laws : Laws o) where
@@ -32,7 +32,7 @@ module _ {K : Type 0} (o : Ops K) (laws : Laws o) where
       ∙ ap₂ o.join (sym (singles arcs i j)) (none_join o laws (alone o a i j))
 
   -- an arc's label joined into the cell of its ends
-  cell_joined : (n : ℕ) (cells : List K) (a : Arc K) → a.from < n → a.to < n → length cells ≡ n * n
+  pub cell_joined : (n : ℕ) (cells : List K) (a : Arc K) → a.from < n → a.to < n → length cells ≡ n * n
       → Shows o n (set cells (a.from * n + a.to) (o.join (cell o n cells a.from a.to) a.label)) (λ i j. o.join (cell o n cells i j) (alone o a i j))
   cell_joined n cells a hf ht long i j hi hj = go (ℕ_discrete a.from i) (ℕ_discrete a.to j)
     where

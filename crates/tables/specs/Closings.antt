@@ -1,7 +1,7 @@
 -- What the closings answer and leave.
 use Rattle.std.specs.Prelude.{◌≡◌, ℕ, ◌*◌, Bool, true, cond, ◌||◌, List, ◌++◌, take, drop, is_ok, Ok, Err, Result, nat_lt}
 use Rattle.labels.specs.Algebra.{Ops}
-use Rattle.paths.specs.Chains.{L}
+use Rattle.paths.specs.Chains.{Mem, L}
 use Rattle.paths.specs.Tables.{table, rounds_made}
 use Rattle.catalogue.specs.Meanings.{Meaning, in_force}
 use Rattle.catalogue.specs.Calls.{outside}
@@ -38,6 +38,7 @@ module _ {K : Type 0} (o : Ops K) (m : Meaning K) where
       cond (outside m from || outside m to) (Err 6)
       (cond (short m.n cells) (Err 13) (Ok (L o (in_force m) m.n from to)))
 
--- if both closings accept, the first n × n cells of their tables are equal
-abbrev pub Agree : {K A B : Type 0} → ℕ → Result A ℕ → List K → Result B ℕ → List K → Type 0
-Agree n answer table answer' table' = is_ok answer ≡ true → is_ok answer' ≡ true → take (n * n) table ≡ take (n * n) table'
+-- some closings of n packages, each by whether it accepted and the table that it left: any two that accepted left the
+-- same first n × n cells
+abbrev pub Agree : {K : Type 0} → ℕ → List (Bool × List K) → Type 0
+Agree {K} n closings = (a b : Bool × List K) → Mem a closings → Mem b closings → a.0 ≡ true → b.0 ≡ true → take (n * n) a.1 ≡ take (n * n) b.1
