@@ -1,0 +1,16 @@
+pub mod SortedParts
+pub mod Parts
+pub mod PlacesJoined
+pub mod White
+pub mod Grow
+pub mod Whole
+pub mod Turned
+pub mod Classes
+pub mod Grouping
+pub mod Named
+pub mod Counting
+pub mod Edges
+pub mod Sorts
+pub mod OwnNames
+pub mod Ordered
+pub mod OrderAnswers
