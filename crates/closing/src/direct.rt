@@ -1,5 +1,5 @@
 // The start of a closing: L(1), the table of single arcs.
-ghost use Rattle.std.specs.Prelude.{◌≡◌, ℕ, ◌*◌, ◌<◌, length, slice_index_or, slice_set};
+ghost use Rattle.std.specs.Prelude.{◌≡◌, ℕ, ◌<◌, length, slice_index_or, slice_set};
 ghost use Rattle.paths.specs.Chains.{L};
 ghost use Rattle.paths.specs.Tables.{Shows};
 ghost use Rattle.tables.specs.Tables.{Square};
@@ -17,7 +17,7 @@ pub(crate) fn clear<K: Label>(cells: &mut [K])
 }
 
 // Joins a label to a cell.
-fn join_to<K: Label>(cells: &mut [K], at: usize, label: K)
+pub(crate) fn join_to<K: Label>(cells: &mut [K], at: usize, label: K)
     requires { at < length cells.old }
     ensures { cells.new ≡ slice_set cells.old at (K.ops.join (slice_index_or cells.old at K.ops.none) label) }
 {
