@@ -1,31 +1,39 @@
--- Runs of calls that include closings.
-use Rattle.std.specs.Prelude.{ℕ, min, Bool, false, ◌||◌, List, [], ◌∷◌, length, is_ok, Result}
+-- Runs of calls that include closings and sort.
+use Rattle.std.specs.Prelude.{◌≡◌, ℕ, min, Bool, true, false, not, ◌||◌, List, [], ◌∷◌, length, is_ok, Result}
 use Rattle.labels.specs.Algebra.{Ops}
 use Rattle.catalogue.specs.Refusals.{on_ok}
-use Rattle.catalogue.specs.Meanings.{Meaning}
+use Rattle.catalogue.specs.Meanings.{Meaning, in_force}
 use Rattle.catalogue.specs.declared.call.Call.{Call}
 use Rattle.catalogue.specs.Runs.{call_answer, reckon}
 use Rattle.runs.specs.declared.step.Step.{Step}
 use Rattle.runs.specs.declared.step.Outcome.{Outcome}
 use Rattle.runs.specs.declared.step.Outcome.TheVariants as outcomes
-use Rattle.runs.specs.declared.step.Step.TheVariants.{Alter, Rounds, Eliminate}
+use Rattle.runs.specs.declared.step.Step.TheVariants.{Alter, Rounds, Eliminate, Order, Sort}
 use Rattle.tables.specs.Closings.{rounds_answer, elimination_answer, closing_leaves}
+use Rattle.graphs.specs.Records.{Sorted}
+use Rattle.graphs.specs.declared.record.PackageRecord.{PackageRecord}
+use Rattle.graphs.specs.Answers.{lacks, sort_answer, order_lacks, order_answer}
 
--- the calls that alter a meaning; closings alter none
+-- the calls that alter a meaning; closings and sort alter none
 abbrev pub alterations : {K : Type 0} → List (Step K) → List (Call K)
 alterations [] = []
 alterations (Alter c ∷ calls) = c ∷ alterations calls
 alterations (Rounds cells ∷ calls) = alterations calls
 alterations (Eliminate cells ∷ calls) = alterations calls
+alterations (Order cells room ∷ calls) = alterations calls
+alterations (Sort room ∷ calls) = alterations calls
 
--- how many cells the tables of a run have
+-- how long the buffers of a run are
 pub record Lengths : Type 0 where
   pub table : ℕ
   pub changed : ℕ
   pub found : ℕ
+  pub records : ℕ
+  pub words : ℕ
 
-abbrev pub lengths : {K : Type 0} → List K → List K → List K → Lengths
-lengths table changed found = record { table = length table; changed = length changed; found = length found }
+abbrev pub lengths : {K : Type 0} → List K → List K → List K → List PackageRecord → List ℕ → Lengths
+lengths table changed found records words =
+    record { table = length table; changed = length changed; found = length found; records = length records; words = length words }
 
 module _ {K : Type 0} (o : Ops K) where
   -- what a call answers that is taken, or the number of its refusal
@@ -33,18 +41,24 @@ module _ {K : Type 0} (o : Ops K) where
   answered m t (Alter c) = on_ok (λ _. outcomes.Altered) (call_answer o m c)
   answered m t (Rounds cells) = on_ok (λ made. outcomes.Rounds made) (rounds_answer o m (min cells t.table) (min cells t.changed) (min cells t.found))
   answered m t (Eliminate cells) = on_ok (λ _. outcomes.Eliminated) (elimination_answer o m (min cells t.table))
+  answered m t (Order cells room) = on_ok (λ _. outcomes.Ordered) (order_answer m (min cells t.table) (min room.records t.records) (min room.words t.words))
+  answered m t (Sort room) = on_ok (λ groups. outcomes.Sorted groups) (sort_answer m (min room.records t.records) (min room.words t.words))
 
   -- what a call leaves in the run's label table
   abbrev pub tabled : Meaning K → Lengths → Step K → List K → List K
   tabled m t (Alter c) old = old
   tabled m t (Rounds cells) old = closing_leaves o m (answered m t (Rounds cells)) old
   tabled m t (Eliminate cells) old = closing_leaves o m (answered m t (Eliminate cells)) old
+  tabled m t (Order cells room) old = closing_leaves o m (answered m t (Order cells room)) old
+  tabled m t (Sort room) old = old
 
   -- does a call write to the run's spare tables? only a closing by rounds that is taken
   abbrev pub spares_used : Meaning K → Lengths → Step K → Bool
   spares_used m t (Alter c) = false
   spares_used m t (Rounds cells) = is_ok (answered m t (Rounds cells))
   spares_used m t (Eliminate cells) = false
+  spares_used m t (Order cells room) = false
+  spares_used m t (Sort room) = false
 
   -- does one of a list of calls?
   abbrev pub some_spares_used : Meaning K → Lengths → List (Step K) → Bool
@@ -55,3 +69,25 @@ module _ {K : Type 0} (o : Ops K) where
   abbrev pub tables : Meaning K → Lengths → List (Step K) → List K → List K
   tables m t [] old = old
   tables m t (c ∷ calls) old = tables (reckon o m (alterations (c ∷ []))) t calls (tabled m t c old)
+
+module _ {K : Type 0} where
+  -- does a call sort? sort with long enough buffers, and so does a closing by order, be there a loop or not
+  abbrev pub sorts : Meaning K → Lengths → Step K → Bool
+  sorts m t (Alter c) = false
+  sorts m t (Rounds cells) = false
+  sorts m t (Eliminate cells) = false
+  sorts m t (Order cells room) = not (order_lacks m (min cells t.table) (min room.records t.records) (min room.words t.words))
+  sorts m t (Sort room) = not (lacks m (min room.records t.records) (min room.words t.words))
+
+  -- what a call leaves in the run's records and work words: where it sorts, the packages' records sorted and the
+  -- words free; else all as it was
+  pub record Filed (m : Meaning K) (does : Bool) (old new : List PackageRecord) (words words' : List ℕ) : Type 0 where
+    pub sorted : does ≡ true → Sorted (in_force m) m.n old new
+    pub kept : does ≡ false → (new ≡ old) × (words' ≡ words)
+
+  -- what a list of calls leaves there: one call after the other
+  abbrev pub Files : Ops K → Meaning K → Lengths → List (Step K) → List PackageRecord → List PackageRecord → List ℕ → List ℕ → Type 0
+  Files o m t [] old new words words' = (new ≡ old) × (words' ≡ words)
+  Files o m t (c ∷ calls) old new words words' =
+      (mid : List PackageRecord) × (free : List ℕ) × Filed m (sorts m t c) old mid words free
+      × Files o (reckon o m (alterations (c ∷ []))) t calls mid new free words'

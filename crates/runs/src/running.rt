@@ -1,14 +1,15 @@
-// Runs of calls, closings among them, and what they leave. The tables stay apart, as in
+// Runs of calls, closings and sort among them, and what they leave. The buffers stay apart, as in
 // `by_rounds`.
-ghost use Rattle.std.specs.Prelude.{◌≡◌, false, min, is_ok, [], ◌∷◌, length};
+ghost use Rattle.std.specs.Prelude.{◌≡◌, false, not, min, is_ok, [], ◌∷◌, length};
 ghost use Rattle.catalogue.specs.Refusals.{answer};
 ghost use Rattle.catalogue.specs.Runs.{reckon};
-ghost use Rattle.runs.specs.Runs.{alterations, answered, tabled, tables, spares_used, some_spares_used, lengths};
+ghost use Rattle.runs.specs.Runs.{alterations, answered, tabled, tables, spares_used, some_spares_used, sorts, Filed, Files, lengths};
 ghost use Rattle.tables.specs.Closings.{rounds_answer, elimination_answer, closing_leaves};
+ghost use Rattle.graphs.specs.Answers.{lacks, sort_answer, order_lacks, order_answer};
 
-use crate::step::{Outcome, Step};
+use crate::step::{Outcome, Room, Step};
 use catalogue::{Catalogue, Refusal, make_call as alter};
-use closing::{by_elimination, by_rounds};
+use closing::{PackageRecord, by_elimination, by_order, by_rounds, sort};
 
 // Makes each call in turn, whatever it answers.
 pub fn run<C: Catalogue>(
@@ -17,13 +18,16 @@ pub fn run<C: Catalogue>(
     table: &mut [C::Label],
     changed: &mut [C::Label],
     found: &mut [C::Label],
+    records: &mut [PackageRecord],
+    words: &mut [u32],
 )
     ensures reckoned { C.Catalogue.meaning catalogue.new ≡ reckon C.Label.Label.ops (C.Catalogue.meaning catalogue.old) (alterations calls.now) }
-    ensures leaves { table.new ≡ tables C.Label.Label.ops (C.Catalogue.meaning catalogue.old) (lengths table.old changed.old found.old) calls.now table.old }
-    ensures spares { some_spares_used C.Label.Label.ops (C.Catalogue.meaning catalogue.old) (lengths table.old changed.old found.old) calls.now ≡ false → (changed.new ≡ changed.old) × (found.new ≡ found.old) }
+    ensures leaves { table.new ≡ tables C.Label.Label.ops (C.Catalogue.meaning catalogue.old) (lengths table.old changed.old found.old records.old words.old) calls.now table.old }
+    ensures spares { some_spares_used C.Label.Label.ops (C.Catalogue.meaning catalogue.old) (lengths table.old changed.old found.old records.old words.old) calls.now ≡ false → (changed.new ≡ changed.old) × (found.new ≡ found.old) }
+    ensures files { Files C.Label.Label.ops (C.Catalogue.meaning catalogue.old) (lengths table.old changed.old found.old records.old words.old) calls.now records.old records.new words.old words.new }
 {
     for call in calls {
-        let _ = make_call(catalogue, *call, table, changed, found);
+        let _ = make_call(catalogue, *call, table, changed, found, records, words);
     }
 }
 
@@ -34,11 +38,14 @@ pub fn make_call<C: Catalogue>(
     table: &mut [C::Label],
     changed: &mut [C::Label],
     found: &mut [C::Label],
+    records: &mut [PackageRecord],
+    words: &mut [u32],
 ) -> Result<Outcome, Refusal>
-    ensures answers { answer result ≡ answered C.Label.Label.ops (C.Catalogue.meaning catalogue.old) (lengths table.old changed.old found.old) call }
+    ensures answers { answer result ≡ answered C.Label.Label.ops (C.Catalogue.meaning catalogue.old) (lengths table.old changed.old found.old records.old words.old) call }
     ensures reckoned { C.Catalogue.meaning catalogue.new ≡ reckon C.Label.Label.ops (C.Catalogue.meaning catalogue.old) (alterations (call ∷ [])) }
-    ensures leaves { table.new ≡ tabled C.Label.Label.ops (C.Catalogue.meaning catalogue.old) (lengths table.old changed.old found.old) call table.old }
-    ensures spares { spares_used C.Label.Label.ops (C.Catalogue.meaning catalogue.old) (lengths table.old changed.old found.old) call ≡ false → (changed.new ≡ changed.old) × (found.new ≡ found.old) }
+    ensures leaves { table.new ≡ tabled C.Label.Label.ops (C.Catalogue.meaning catalogue.old) (lengths table.old changed.old found.old records.old words.old) call table.old }
+    ensures spares { spares_used C.Label.Label.ops (C.Catalogue.meaning catalogue.old) (lengths table.old changed.old found.old records.old words.old) call ≡ false → (changed.new ≡ changed.old) × (found.new ≡ found.old) }
+    ensures files { Filed (C.Catalogue.meaning catalogue.old) (sorts (C.Catalogue.meaning catalogue.old) (lengths table.old changed.old found.old records.old words.old) call) records.old records.new words.old words.new }
 {
     match call {
         Step::Alter(change) => alter(catalogue, change).map(|()| Outcome::Altered),
@@ -48,6 +55,10 @@ pub fn make_call<C: Catalogue>(
         Step::Eliminate(cells) => {
             eliminate_within(catalogue, cells, table).map(|()| Outcome::Eliminated)
         }
+        Step::Order(cells, room) => {
+            order_within(catalogue, cells, room, table, records, words).map(|()| Outcome::Ordered)
+        }
+        Step::Sort(room) => { sort_within(catalogue, room, records, words).map(Outcome::Sorted) }
     }
 }
 
@@ -85,4 +96,47 @@ fn eliminate_within<C: Catalogue>(
 {
     let in_table = cells.min(table.len());
     by_elimination(catalogue, &mut table[..in_table])
+}
+
+// Closes by order in the first so many cells, records and words.
+fn order_within<C: Catalogue>(
+    catalogue: &C,
+    cells: usize,
+    room: Room,
+    table: &mut [C::Label],
+    records: &mut [PackageRecord],
+    words: &mut [u32],
+) -> Result<(), Refusal>
+    ensures answers { answer result ≡ order_answer (C.Catalogue.meaning catalogue.now) (min cells (length table.old)) (min room.records (length records.old)) (min room.words (length words.old)) }
+    ensures leaves { table.new ≡ closing_leaves C.Label.Label.ops (C.Catalogue.meaning catalogue.now) (answer result) table.old }
+    ensures files { Filed (C.Catalogue.meaning catalogue.now) (not (order_lacks (C.Catalogue.meaning catalogue.now) (min cells (length table.old)) (min room.records (length records.old)) (min room.words (length words.old)))) records.old records.new words.old words.new }
+{
+    let in_table = cells.min(table.len());
+    let in_records = room.records.min(records.len());
+    let in_words = room.words.min(words.len());
+    by_order(
+        catalogue,
+        &mut table[..in_table],
+        &mut records[..in_records],
+        &mut words[..in_words],
+    )
+}
+
+// Sorts in the first so many records and words.
+fn sort_within<C: Catalogue>(
+    catalogue: &C,
+    room: Room,
+    records: &mut [PackageRecord],
+    words: &mut [u32],
+) -> Result<u32, Refusal>
+    ensures answers { answer result ≡ sort_answer (C.Catalogue.meaning catalogue.now) (min room.records (length records.old)) (min room.words (length words.old)) }
+    ensures files { Filed (C.Catalogue.meaning catalogue.now) (not (lacks (C.Catalogue.meaning catalogue.now) (min room.records (length records.old)) (min room.words (length words.old)))) records.old records.new words.old words.new }
+{
+    let in_records = room.records.min(records.len());
+    let in_words = room.words.min(words.len());
+    sort(
+        catalogue,
+        &mut records[..in_records],
+        &mut words[..in_words],
+    )
 }

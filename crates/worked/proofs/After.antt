@@ -1,36 +1,61 @@
 -- What is told of the meaning that a run leaves is told of the reckoned one.
-use Rattle.std.proofs.Common.{◌≡◌, ℕ, false, List, length, is_ok, Result, ◌∙◌, subst, ap₂}
+use Rattle.std.proofs.Common.{◌≡◌, ℕ, true, false, not, List, length, is_ok, Ok, Err, Result, sym, ap, ◌∙◌, subst, ap₂, true≢false}
 use Rattle.labels.specs.Algebra.{Ops}
 use Rattle.catalogue.specs.Refusals.{answer}
-use Rattle.catalogue.specs.Meanings.{Meaning}
 use Rattle.runs.specs.declared.agreement.Closings.{Closings}
 use Rattle.runs.specs.declared.step.Step.{Step}
-use Rattle.runs.specs.Runs.{tables, some_spares_used}
-use Rattle.tables.specs.Closings.{rounds_answer, elimination_answer, label_answer, closing_leaves, Agree}
-use Rattle.worked.specs.Asked.{Tables, Told, reckoned, sizes}
+use Rattle.catalogue.specs.Meanings.{Meaning, in_force}
+use Rattle.graphs.specs.Records.{Sorted}
+use Rattle.graphs.specs.declared.record.PackageRecord.{PackageRecord}
+use Rattle.runs.proofs.Filing.{taken, filed_whole}
+use Rattle.runs.specs.Runs.{Lengths, lengths, tables, some_spares_used, Filed, Files}
+use Rattle.graphs.specs.Answers.{lacks, sort_answer}
+use Rattle.tables.specs.Closings.{label_answer}
+use Rattle.runs.specs.AllClosings.{Buffers, sizes, AllClosed}
+use Rattle.runs.proofs.Stepping.{same_lengths}
+use Rattle.worked.specs.Asked.{Told, Named, SortedAfter, SortedFrom, count_from, reckoned}
 
 module _ {K : Type 0} (o : Ops K) (now m : Meaning K) (steps : List (Step K)) (is : now ≡ reckoned o m steps) where
-  -- old, between the run and the closings, and new
-  pub told_after : (r : Closings) (old mid new : Tables K)
-      → length mid.table ≡ length old.table → length mid.changed ≡ length old.changed → length mid.found ≡ length old.found → mid.second ≡ old.second
+  pub told_after : (r : Closings) (old mid new : Buffers K)
+      → length mid.table ≡ length old.table → length mid.changed ≡ length old.changed → length mid.found ≡ length old.found
+      → length mid.records ≡ length old.records → length mid.words ≡ length old.words → mid.second ≡ old.second → mid.third ≡ old.third
       → mid.table ≡ tables o m (sizes old) steps old.table
       → (some_spares_used o m (sizes old) steps ≡ false → (mid.changed ≡ old.changed) × (mid.found ≡ old.found))
-      → answer r.by_rounds ≡ rounds_answer o now (length mid.table) (length mid.changed) (length mid.found) → answer r.by_elimination ≡ elimination_answer o now (length mid.second)
-      → new.table ≡ closing_leaves o now (answer r.by_rounds) mid.table → new.second ≡ closing_leaves o now (answer r.by_elimination) mid.second
-      → (is_ok (answer r.by_rounds) ≡ false → (new.changed ≡ mid.changed) × (new.found ≡ mid.found))
-      → Agree now.n (answer r.by_rounds) new.table (answer r.by_elimination) new.second
-      → Told o m steps old new r
-  told_after r old mid new p q s u run_left run_spares rounds elimination left second spares agree = record {
-    rounds = rounds ∙ ap₂ (λ k x. rounds_answer o k x (length mid.changed) (length mid.found)) is p ∙ ap₂ (rounds_answer o (reckoned o m steps) (length old.table)) q s;
-    elimination = elimination ∙ ap₂ (λ k xs. elimination_answer o k (length xs)) is u;
-    agree = subst (λ k. Agree k.n (answer r.by_rounds) new.table (answer r.by_elimination) new.second) is agree;
-    table = left ∙ ap₂ (λ k cells. closing_leaves o k (answer r.by_rounds) cells) is run_left;
-    second = second ∙ ap₂ (λ k cells. closing_leaves o k (answer r.by_elimination) cells) is u;
-    spares = λ unused refused.
-        let kept = spares refused in
-        let before = run_spares unused in
-        (kept.0 ∙ before.0, kept.1 ∙ before.1);
-  }
+      → Files o m (sizes old) steps old.records mid.records old.words mid.words
+      → AllClosed o now mid new r → Told o m steps old new r
+  told_after r old mid new p q s v w u z left spares files closed = (
+    mid,
+    record {
+      table = left;
+      spares = spares;
+      files = files;
+      second = u;
+      third = z;
+      as_long = same_lengths mid.table mid.changed mid.found old.table old.changed old.found mid.records old.records mid.words old.words p q s v w;
+    },
+    subst (λ k. AllClosed o k mid new r) is closed,
+  )
 
   pub label_after_is : (answer : Result K ℕ) (a a' from to : ℕ) → a ≡ a' → answer ≡ label_answer o now a from to → answer ≡ label_answer o (reckoned o m steps) a' from to
   label_after_is answer a a' from to p e = e ∙ ap₂ (λ k x. label_answer o k x from to) is p
+
+  pub sorted_after : (told : Result ℕ ℕ) (table changed found : List K) (old mid new : List PackageRecord) (words free words' : List ℕ)
+      → length mid ≡ length old → length free ≡ length words → Files o m (lengths table changed found old words) steps old mid words free
+      → told ≡ sort_answer now (length mid) (length free)
+      → (is_ok told ≡ true → Sorted (in_force now) now.n mid new)
+      → (is_ok told ≡ false → (new ≡ mid) × (words' ≡ free))
+      → SortedAfter o m steps (lengths table changed found old words) old new words words'
+  sorted_after told table changed found old mid new words free words' p q files is_told sorts keeps =
+      let lacking = lacks (reckoned o m steps) (length old) (length words) in
+      let e = is_told ∙ ap₂ (sort_answer now) p q ∙ ap (λ k. sort_answer k (length old) (length words)) is in
+      let ok = taken lacking _ told e in
+      let last = filed_whole now lacking mid new free words' (λ z. sorts (ok ∙ ap not z)) (λ z. keeps (ok ∙ ap not z)) in
+      record { mid = mid; free = free; ran = files; sorted = subst (λ k. Filed k (not lacking) mid new free words') is last }
+
+-- what sort leaves names the groups
+pub named_after : {K : Type 0} (o : Ops K) (first : Result (Meaning K) ℕ) (steps : List (Step K)) (answer : Result ℕ ℕ) (t : Lengths)
+    (old new : List PackageRecord) (words words' : List ℕ)
+    → answer ≡ count_from o first steps t.records t.words → SortedFrom o first steps t old new words words' → is_ok answer ≡ true → Named o first steps new
+named_after o (Ok m) steps answer t old new words words' told left ok =
+    (left.sorted.sorted (sym (taken (lacks (reckoned o m steps) t.records t.words) _ answer told) ∙ ok)).groups
+named_after o (Err k) steps answer t old new words words' told left ok = true≢false (sym ok ∙ ap is_ok told)

@@ -1,15 +1,17 @@
 -- Worked cases, each from a making and a list of calls.
-use Rattle.std.specs.Prelude.{◌≡◌, ℕ, List, [], ◌∷◌, ◌++◌, Ok, Result}
+use Rattle.std.specs.Prelude.{◌≡◌, ℕ, List, [], ◌∷◌, ◌++◌, Ok, Err, Result}
 use Rattle.labels.specs.declared.kinds.Reach.TheVariants.{Yes}
 use Rattle.labels.specs.declared.kinds.Minutes.{Minutes}
 use Rattle.labels.specs.declared.kinds.Licence.{Licence}
 use Rattle.labels.specs.Kinds.{reach_ops, reach_named, minutes_ops, minutes_named, minutes_of, licence_ops, licence_named, mask_of}
 use Rattle.paths.specs.Chains.{L}
 use Rattle.paths.specs.Tables.{rounds_made}
+use Rattle.paths.specs.Groups.{groups}
 use Rattle.catalogue.specs.Meanings.{in_force}
 use Rattle.catalogue.specs.Makings.{Making, ledger_of, holding_over}
 use Rattle.catalogue.specs.declared.call.Call.{Call}
-use Rattle.catalogue.specs.declared.call.Call.TheVariants.{Admit, Hold}
+use Rattle.catalogue.specs.declared.call.Call.TheVariants.{Admit, Withdraw, Hold}
+use Rattle.graphs.specs.Answers.{sort_answer, order_answer}
 use Rattle.worked.specs.Asked.{asked}
 
 -- six arcs between five packages, each with what f makes of its minutes
@@ -46,3 +48,10 @@ pub record WorkedCases : Type 0 where
   pub one_too_long : minutes (ledger_of 3 2) (Admit 0 1 (minutes_of 4294967290) ∷ Admit 1 2 (minutes_of 5) ∷ []) 0 2 ≡ Ok 4294967295
   -- only what both chains bring
   pub shared : licences (ledger_of 3 3) (Admit 0 1 (mask_of 3) ∷ Admit 1 2 (mask_of 4) ∷ Admit 0 2 (mask_of 6) ∷ []) 0 2 ≡ Ok 6
+  -- the third and the fourth package lead to each other
+  pub groups_named : asked minutes_ops minutes_named five (six minutes_of) (λ m. groups (in_force m) m.n) ≡ Ok (0 ∷ 1 ∷ 2 ∷ 2 ∷ 4 ∷ [])
+  pub groups_counted : asked minutes_ops minutes_named five (six minutes_of) (λ m. sort_answer m 5 86) ≡ Ok (Ok 4)
+  -- so a closing by order is refused
+  pub looped : asked minutes_ops minutes_named five (six minutes_of) (λ m. order_answer m 25 5 86) ≡ Ok (Err 14)
+  -- and taken without the arc from the fourth back to the third
+  pub straight : asked minutes_ops minutes_named five (six minutes_of ++ (Withdraw 3 2 ∷ [])) (λ m. order_answer m 25 5 85) ≡ Ok (Ok tt)

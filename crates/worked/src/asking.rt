@@ -1,14 +1,16 @@
-// What a catalogue tells once a run is over. The tables stay apart, as in `by_rounds`.
+// What a catalogue tells once a run is over. The buffers stay apart, as in `by_rounds`.
 ghost use Rattle.std.specs.Prelude.{◌≡◌, false, length, Ok};
 ghost use Rattle.catalogue.specs.Refusals.{answer};
 ghost use Rattle.runs.specs.Runs.{lengths};
-ghost use Rattle.worked.specs.Asked.{Told, lent, reckoned, label_from, label_leaves, spares_from};
+ghost use Rattle.runs.specs.AllClosings.{lent};
+ghost use Rattle.worked.specs.Asked.{Told, reckoned, label_from, label_leaves, count_from, tables_from, spares_from, FilesFrom, SortedFrom};
 
 use catalogue::{Catalogue, Refusal};
-use closing::label_of;
-use runs::{Closings, Step, close_both, run};
+use closing::{PackageRecord, label_of, sort};
+use runs::{Closings, Step, close_all, run};
 
-// Makes the calls, then closes in both ways, by elimination into `second`.
+// Makes the calls, then closes in all three ways, by elimination into `second` and
+// by order into `third`.
 #[tactic(auto, using(crate::proofs::After::told_after))]
 pub fn close_after<C: Catalogue>(
     catalogue: &mut C,
@@ -17,12 +19,17 @@ pub fn close_after<C: Catalogue>(
     changed: &mut [C::Label],
     found: &mut [C::Label],
     second: &mut [C::Label],
+    third: &mut [C::Label],
+    records: &mut [PackageRecord],
+    words: &mut [u32],
 ) -> Closings
     ensures alters { C.Catalogue.meaning catalogue.new ≡ reckoned C.Label.Label.ops (C.Catalogue.meaning catalogue.old) steps.now }
-    ensures tells { Told C.Label.Label.ops (C.Catalogue.meaning catalogue.old) steps.now (lent table.old changed.old found.old second.old) (lent table.new changed.new found.new second.new) result }
+    ensures tells { Told C.Label.Label.ops (C.Catalogue.meaning catalogue.old) steps.now (lent table.old changed.old found.old second.old third.old records.old words.old) (lent table.new changed.new found.new second.new third.new records.new words.new) result }
 {
-    run(catalogue, steps, table, changed, found);
-    close_both(catalogue, table, changed, found, second)
+    run(catalogue, steps, table, changed, found, records, words);
+    close_all(
+        catalogue, table, changed, found, second, third, records, words,
+    )
 }
 
 // Makes the calls, then tells the label of a pair.
@@ -33,14 +40,38 @@ pub fn label_after<C: Catalogue>(
     table: &mut [C::Label],
     changed: &mut [C::Label],
     found: &mut [C::Label],
+    records: &mut [PackageRecord],
+    words: &mut [u32],
     from: u32,
     to: u32,
 ) -> Result<C::Label, Refusal>
     ensures alters { C.Catalogue.meaning catalogue.new ≡ reckoned C.Label.Label.ops (C.Catalogue.meaning catalogue.old) steps.now }
     ensures answers { answer result ≡ label_from C.Label.Label.ops (Ok (C.Catalogue.meaning catalogue.old)) steps.now (length table.old) from to }
-    ensures leaves { table.new ≡ label_leaves C.Label.Label.ops (Ok (C.Catalogue.meaning catalogue.old)) steps.now (lengths table.old changed.old found.old) from to table.old }
-    ensures spares { spares_from C.Label.Label.ops (Ok (C.Catalogue.meaning catalogue.old)) steps.now (lengths table.old changed.old found.old) ≡ false → (changed.new ≡ changed.old) × (found.new ≡ found.old) }
+    ensures leaves { table.new ≡ label_leaves C.Label.Label.ops (Ok (C.Catalogue.meaning catalogue.old)) steps.now (lengths table.old changed.old found.old records.old words.old) from to table.old }
+    ensures spares { spares_from C.Label.Label.ops (Ok (C.Catalogue.meaning catalogue.old)) steps.now (lengths table.old changed.old found.old records.old words.old) ≡ false → (changed.new ≡ changed.old) × (found.new ≡ found.old) }
+    ensures files { FilesFrom C.Label.Label.ops (Ok (C.Catalogue.meaning catalogue.old)) steps.now (lengths table.old changed.old found.old records.old words.old) records.old records.new words.old words.new }
 {
-    run(catalogue, steps, table, changed, found);
+    run(catalogue, steps, table, changed, found, records, words);
     label_of(catalogue, table, from, to)
+}
+
+// Makes the calls, then sorts.
+#[tactic(auto, using(crate::proofs::After::sorted_after))]
+pub fn sort_after<C: Catalogue>(
+    catalogue: &mut C,
+    steps: &[Step<C::Label>],
+    table: &mut [C::Label],
+    changed: &mut [C::Label],
+    found: &mut [C::Label],
+    records: &mut [PackageRecord],
+    words: &mut [u32],
+) -> Result<u32, Refusal>
+    ensures alters { C.Catalogue.meaning catalogue.new ≡ reckoned C.Label.Label.ops (C.Catalogue.meaning catalogue.old) steps.now }
+    ensures answers { answer result ≡ count_from C.Label.Label.ops (Ok (C.Catalogue.meaning catalogue.old)) steps.now (length records.old) (length words.old) }
+    ensures leaves { table.new ≡ tables_from C.Label.Label.ops (Ok (C.Catalogue.meaning catalogue.old)) steps.now (lengths table.old changed.old found.old records.old words.old) table.old }
+    ensures spares { spares_from C.Label.Label.ops (Ok (C.Catalogue.meaning catalogue.old)) steps.now (lengths table.old changed.old found.old records.old words.old) ≡ false → (changed.new ≡ changed.old) × (found.new ≡ found.old) }
+    ensures files { SortedFrom C.Label.Label.ops (Ok (C.Catalogue.meaning catalogue.old)) steps.now (lengths table.old changed.old found.old records.old words.old) records.old records.new words.old words.new }
+{
+    run(catalogue, steps, table, changed, found, records, words);
+    sort(catalogue, records, words)
 }

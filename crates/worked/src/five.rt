@@ -1,15 +1,16 @@
 // A ledger of five packages and six arcs.
-ghost use Rattle.std.specs.Prelude.{◌≡◌, map};
+ghost use Rattle.std.specs.Prelude.{◌≡◌, true, [], ◌∷◌, map, length, is_ok};
 ghost use Rattle.labels.specs.Kinds.{minutes_ops, minutes_named, minutes_of};
 ghost use Rattle.catalogue.specs.declared.call.Call.TheVariants.{Admit};
 ghost use Rattle.catalogue.specs.Refusals.{answer};
 ghost use Rattle.catalogue.specs.Makings.{first_meaning};
 ghost use Rattle.runs.specs.declared.step.Step.TheVariants.{Alter};
-ghost use Rattle.worked.specs.Asked.{label_from};
+ghost use Rattle.worked.specs.Asked.{label_from, count_from, Named};
 ghost use Rattle.worked.specs.Worked.{five, six, WorkedCases};
 
-use crate::makes::label_in_ledger;
-use catalogue::{Call, Refusal};
+use crate::makes::{label_in_ledger, sort_made};
+use catalogue::{Blank, Call, Ledger, Refusal};
+use closing::PackageRecord;
 use labels::{Label, Minutes};
 use paths::Arc;
 use runs::Step;
@@ -22,19 +23,59 @@ pub fn label_of_five(from: u32, to: u32) -> Result<Minutes, Refusal>
     label_in_five(&six_steps(), from, to)
 }
 
+// The names of the groups of five packages: 2 and 3 are in one.
+#[tactic(auto, using(crate::proofs::SixArcs::six_named))]
+pub fn groups_of_five() -> [u32; 5]
+    ensures { result ≡ 0 ∷ 1 ∷ 2 ∷ 2 ∷ 4 ∷ [] }
+{
+    names(sort_five(&six_steps()))
+}
+
+fn names(records: [PackageRecord; 5]) -> [u32; 5]
+    ensures { result ≡ map (λ r. r.group) records }
+{
+    records.map(|record| record.group)
+}
+
+// The records of five packages sorted after these steps, where sort takes them.
+#[tactic(auto, using(crate::proofs::After::named_after))]
+fn sort_five(steps: &[Step<Minutes>]) -> [PackageRecord; 5]
+    ensures all { length result ≡ 5 }
+    ensures named { is_ok (count_from minutes_ops (first_meaning minutes_ops minutes_named five) steps.now 5 86) ≡ true → Named minutes_ops (first_meaning minutes_ops minutes_named five) steps.now result }
+{
+    let label = Minutes::NONE;
+    let mut arcs = blank_arcs();
+    let mut table = [label; 25];
+    let mut changed = [label; 25];
+    let mut found = [label; 25];
+    let mut records = [PackageRecord::default(); 5];
+    let mut words = [0; 86];
+    let _ = sort_made::<_, Ledger<Minutes>>(
+        Blank {
+            n: 5,
+            arcs: &mut arcs,
+        },
+        steps,
+        &mut table,
+        &mut changed,
+        &mut found,
+        &mut records,
+        &mut words,
+    );
+    records
+}
+
 // The label of a pair of five packages after these steps.
 fn label_in_five(steps: &[Step<Minutes>], from: u32, to: u32) -> Result<Minutes, Refusal>
     ensures { answer result ≡ label_from minutes_ops (first_meaning minutes_ops minutes_named five) steps.now 25 from to }
 {
     let label = Minutes::NONE;
-    let mut arcs = [Arc {
-        from: 0,
-        to: 0,
-        label,
-    }; 8];
+    let mut arcs = blank_arcs();
     let mut table = [label; 25];
     let mut changed = [label; 25];
     let mut found = [label; 25];
+    let mut records = [PackageRecord::default(); 5];
+    let mut words = [0; 86];
     label_in_ledger(
         5,
         &mut arcs,
@@ -42,9 +83,20 @@ fn label_in_five(steps: &[Step<Minutes>], from: u32, to: u32) -> Result<Minutes,
         &mut table,
         &mut changed,
         &mut found,
+        &mut records,
+        &mut words,
         from,
         to,
     )
+}
+
+// Room for eight arcs.
+fn blank_arcs() -> [Arc<Minutes>; 8] {
+    [Arc {
+        from: 0,
+        to: 0,
+        label: Minutes::NONE,
+    }; 8]
 }
 
 fn six_steps() -> [Step<Minutes>; 6]
