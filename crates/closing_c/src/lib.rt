@@ -1,8 +1,10 @@
-// The closings of minutes for callers in C, who hand in a sheet and lend tables. A call tells 0, or the
-// number of the refusal.
+// Sort and the closings of minutes for callers in C, who hand in a sheet and lend tables, records and
+// work words. A call tells 0, or the number of the refusal.
 #![tactic(auto)]
 
 pub mod elimination;
+pub mod order;
 pub mod rounds;
+pub mod sorting;
 #[cfg(test)]
 mod tests;
