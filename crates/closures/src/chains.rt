@@ -92,11 +92,19 @@ impl<K: Kind> Chains<K> {
         self.all.iter().any(|chain| chain.word == K::NO_WORD)
     }
 
+    // Is there a loop, and the label of every loop none?
+    pub(crate) fn loops_without_label(&self) -> bool {
+        self.loops() && (0..self.n).all(|p| self.word(p, p) == K::NO_WORD)
+    }
+
     // Has a pair another label by shorter chains, which is not none?
     pub(crate) fn changed(&self) -> bool {
-        self.all.iter().any(|chain| {
-            let early = self.within(chain.arcs, chain.from, chain.to);
-            early != K::NO_WORD && early != self.word(chain.from, chain.to)
-        })
+        (1..self.n).any(|m| (0..self.n).any(|i| (0..self.n).any(|j| self.changes(m, i, j))))
+    }
+
+    // Has a pair another label by chains of 1 to `most` arcs, which is not none?
+    fn changes(&self, most: u32, from: u32, to: u32) -> bool {
+        let early = self.within(most, from, to);
+        early != K::NO_WORD && early != self.word(from, to)
     }
 }

@@ -8,8 +8,8 @@ use labels::Label;
 use std::alloc::{AllocError, Global};
 use std::test::Fail;
 
-// More cells than the closings of 5 packages need.
-const CELLS: usize = 30;
+// More cells than the closings of 10 packages need.
+const CELLS: usize = 105;
 
 // The label that a word names, or none.
 pub(crate) fn label<K: Label>(word: u32) -> K {
@@ -55,12 +55,12 @@ fn check_labels<K: Kind, C: Catalogue<Label = K>>(
     Ok(())
 }
 
-// Closes in both ways.
+// Closes by rounds and by elimination; answers the table of the labels.
 pub(crate) fn check_closed<K: Kind, C: Catalogue<Label = K>>(
     heap: Global,
     c: &C,
     chains: &Chains<K>,
-) -> Result<(), Fail> {
+) -> Result<Vec<K>, Fail> {
     let mut table = unwritten(heap)?;
     let mut changed = unwritten(heap)?;
     let mut found = unwritten(heap)?;
@@ -76,5 +76,7 @@ pub(crate) fn check_closed<K: Kind, C: Catalogue<Label = K>>(
     let mut table = unwritten(heap)?;
     by_elimination(c, table.as_mut_slice())?;
     check_table(table.as_slice(), chains)?;
-    check_labels(c, table.as_mut_slice(), chains)
+    check_labels(c, table.as_mut_slice(), chains)?;
+    check_table(table.as_slice(), chains)?;
+    Ok(table)
 }

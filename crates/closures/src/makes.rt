@@ -1,8 +1,12 @@
 // Small random catalogues of every kind, over every make and a stack of layers.
 use crate::chains::Chains;
 use crate::closed::check_closed;
+use crate::groups::Groups;
 use crate::kinds::Kind;
-use crate::scenes::{PLACES, admission, any_call, in_force, labelled};
+use crate::ordered::check_order;
+use crate::scenes::{PLACES, Ways, admission, any_call, in_force, labelled};
+use crate::shapes::Shapes;
+use crate::sorted::check_sort;
 use cases::{Frozen, Reference, Rolls, Width, blank, check, check_eq, count, empty_ledger};
 use catalogue::{Call, Catalogue, Holding, Layer, Ledger, Make, Sheet, Turned, run};
 use labels::{Licence, Minutes, Reach};
@@ -26,14 +30,17 @@ struct Scene<K> {
 // In how many catalogues of one make something was seen.
 #[derive(Clone, Copy, Default)]
 struct Seen {
-    // a chain back to its start
-    loops: usize,
+    shapes: Shapes,
     // two arcs in force with the same ends
     parallel: usize,
     // an arc that a hold hides
     hidden: usize,
     // a chain whose label is none
     lost: usize,
+    // such a chain, and no loop
+    lost_straight: usize,
+    // loops, and the label of each is none
+    lost_loops: usize,
     // a pair whose longer chains change its label
     changed: usize,
 }
@@ -41,27 +48,33 @@ struct Seen {
 impl Seen {
     // Of any make.
     fn check<K: Kind>(&self) -> Result<(), Fail> {
-        check(self.loops > 0)?;
+        self.shapes.check()?;
         check(self.parallel > 0)?;
         check_eq(self.lost > 0, K::LOSES)?;
+        check_eq(self.lost_straight > 0, K::LOSES)?;
+        check_eq(self.lost_loops > 0, K::LOSES)?;
         check_eq(self.changed > 0, K::CHANGES)
     }
 
     // Of a make that can hold.
     fn check_with_holds<K: Kind>(&self) -> Result<(), Fail> {
         check(self.hidden > 0)?;
+        self.shapes.check_holds()?;
         self.check::<K>()
     }
 }
 
 impl<K: Kind> Scene<K> {
     fn new(heap: Global, rolls: &mut Rolls) -> Result<Scene<K>, AllocError> {
-        let n = rolls.below(4).saturating_add(1);
+        let n = rolls.below(10).clamp(1, 5);
+        let ways = Ways::rolled(rolls);
         Ok(Scene {
             heap,
             n,
-            first: (0..6).map(|_| admission::<K>(rolls, n)).collect(heap)?,
-            then: (0..6).map(|_| any_call::<K>(rolls, n)).collect(heap)?,
+            first: (0..7)
+                .map(|_| admission::<K>(rolls, n, ways))
+                .collect(heap)?,
+            then: (0..6).map(|_| any_call::<K>(rolls, n, ways)).collect(heap)?,
             kind: PhantomData,
         })
     }
@@ -92,8 +105,9 @@ impl<K: Kind> Scene<K> {
         run(top, calls.as_slice());
         reference.run(self.then.as_slice())?;
         let arcs = in_force(self.heap, &reference)?;
-        compare(self.heap, top, arcs.as_slice(), seen)?;
+        let groups = compare(self.heap, top, arcs.as_slice(), seen)?;
         count(&mut seen.hidden, arcs.len() < reference.stock_len());
+        seen.shapes.note_holds(self.heap, &mut reference, &groups)?;
         Ok(())
     }
 
@@ -110,7 +124,8 @@ impl<K: Kind> Scene<K> {
         let arcs = in_force(self.heap, &reference)?;
         let bytes = sheet_bytes(self.heap, self.n, arcs.as_slice())?;
         let sheet = Sheet::<K>::make(bytes.as_slice())?;
-        compare(self.heap, &sheet, arcs.as_slice(), seen)
+        compare(self.heap, &sheet, arcs.as_slice(), seen)?;
+        Ok(())
     }
 
     fn check_turned(&self, seen: &mut Seen) -> Result<(), Fail> {
@@ -156,20 +171,27 @@ impl<K: Kind> Scene<K> {
     }
 }
 
-// Compares with the chains of these arcs, which are those in force.
+// Compares with the chains of these arcs, which are those in force; answers the groups that they
+// make.
 fn compare<K: Kind, C: Catalogue<Label = K>>(
     heap: Global,
     c: &C,
     arcs: &[Arc<u32>],
     seen: &mut Seen,
-) -> Result<(), Fail> {
-    let chains = Chains::new(heap, c.n(), arcs)?;
-    check_closed(heap, c, &chains)?;
-    count(&mut seen.loops, chains.loops());
+) -> Result<Groups, Fail> {
+    let chains = Chains::<K>::new(heap, c.n(), arcs)?;
+    let groups = Groups::new(heap, c.n(), arcs)?;
+    check_eq(groups.loops() > 0, chains.loops())?;
+    let labels = check_closed(heap, c, &chains)?;
+    check_sort(heap, c, arcs, &groups)?;
+    check_order(heap, c, arcs, &groups, labels.as_slice())?;
+    seen.shapes.note(heap, arcs, &groups)?;
     count(&mut seen.parallel, parallel(arcs));
     count(&mut seen.lost, chains.lost());
+    count(&mut seen.lost_straight, chains.lost() && !chains.loops());
+    count(&mut seen.lost_loops, chains.loops_without_label());
     count(&mut seen.changed, chains.changed());
-    Ok(())
+    Ok(groups)
 }
 
 // Writes arcs as a sheet: n, each package's offset and length, and the runs.

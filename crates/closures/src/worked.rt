@@ -3,12 +3,13 @@ use crate::chains::Chains;
 use crate::closed::{label, unwritten};
 use crate::kinds::Kind;
 use crate::scenes::{PLACES, in_force, labelled};
+use crate::sorted::{unsorted, work};
 use cases::{Reference, blank, check, check_eq, empty_ledger};
-use catalogue::{Call, Holding, Layer, run};
+use catalogue::{Call, Holding, Layer, Refusal, run};
 use closing::row;
 use labels::{Licence, Minutes, Reach};
 use paths::Arc;
-use runs::close_both;
+use runs::close_all;
 use std::alloc::{AllocError, Global};
 use std::test::Fail;
 
@@ -27,12 +28,13 @@ fn check_pairs<K: Kind>(table: &[K], n: u32, pairs: &[Arc<u32>]) -> Result<(), F
     Ok(())
 }
 
-// What both closings and the chains give after these calls on Holding over a ledger.
+// What the closings and the chains give after these calls on Holding over a ledger.
 fn check_case<K: Kind>(
     heap: Global,
     n: u32,
     calls: &[Call<u32>],
     rounds: usize,
+    ordered: Result<(), Refusal>,
     pairs: &[Arc<u32>],
 ) -> Result<(), Fail> {
     let mut arcs = blank::<K>(heap, PLACES)?;
@@ -44,17 +46,27 @@ fn check_case<K: Kind>(
     let mut changed = unwritten(heap)?;
     let mut found = unwritten(heap)?;
     let mut second = unwritten(heap)?;
-    let closings = close_both(
+    let mut third = unwritten(heap)?;
+    let mut records = unsorted(heap)?;
+    let mut words = work(heap, &top)?;
+    let closings = close_all(
         &top,
         first.as_mut_slice(),
         changed.as_mut_slice(),
         found.as_mut_slice(),
         second.as_mut_slice(),
+        third.as_mut_slice(),
+        records.as_mut_slice(),
+        words.as_mut_slice(),
     );
     check_eq(closings.by_rounds, Ok(rounds))?;
     check_eq(closings.by_elimination, Ok(()))?;
+    check_eq(closings.by_order, ordered)?;
     check_pairs(first.as_slice(), n, pairs)?;
     check_pairs(second.as_slice(), n, pairs)?;
+    if ordered.is_ok() {
+        check_pairs(third.as_slice(), n, pairs)?;
+    }
     let mut reference = Reference::new(heap, n, K::NO_WORD, PLACES, 32);
     reference.run(calls)?;
     let arcs = in_force(heap, &reference)?;
@@ -77,7 +89,7 @@ const FIVE: [(u32, u32, u32); 6] = [
 ];
 
 // The calls that admit those arcs, and further ones.
-fn five(heap: Global, then: &[Call<u32>]) -> Result<Vec<Call<u32>>, AllocError> {
+pub(crate) fn five(heap: Global, then: &[Call<u32>]) -> Result<Vec<Call<u32>>, AllocError> {
     let mut calls: Vec<_> = FIVE
         .iter()
         .map(|(from, to, minutes)| Call::Admit(*from, *to, *minutes))
@@ -99,13 +111,21 @@ fn five_packages(rt: HostRuntime) -> Result<(), Fail> {
     ];
     let heap = rt.alloc();
     let calls = five(heap, &[])?;
-    check_case::<Minutes>(heap, 5, calls.as_slice(), 4, &pairs)?;
+    check_case::<Minutes>(heap, 5, calls.as_slice(), 4, Err(Refusal::Loop), &pairs)?;
     // a worse arc beside another changes nothing
     let calls = five(heap, &[Call::Admit(0, 1, 6)])?;
-    check_case::<Minutes>(heap, 5, calls.as_slice(), 4, &pairs)?;
+    check_case::<Minutes>(heap, 5, calls.as_slice(), 4, Err(Refusal::Loop), &pairs)?;
     let calls = five(heap, &[Call::Hold(1)])?;
     let held = [pair(4, 3, 15), pair(0, 1, NONE), pair(1, 2, NONE)];
-    check_case::<Minutes>(heap, 5, calls.as_slice(), 3, &held)
+    check_case::<Minutes>(heap, 5, calls.as_slice(), 3, Err(Refusal::Loop), &held)?;
+    let calls = five(heap, &[Call::Withdraw(3, 2)])?;
+    let opened = [
+        pair(4, 3, 13),
+        pair(0, 2, 7),
+        pair(2, 2, NONE),
+        pair(3, 2, NONE),
+    ];
+    check_case::<Minutes>(heap, 5, calls.as_slice(), 4, Ok(()), &opened)
 }
 
 #[test]
@@ -116,7 +136,7 @@ fn five_packages_reached(rt: HostRuntime) -> Result<(), Fail> {
         .map(|(from, to, _)| Call::Admit(*from, *to, 1))
         .collect(heap)?;
     let pairs = [pair(4, 3, 1), pair(2, 2, 1), pair(0, 0, 0), pair(3, 4, 0)];
-    check_case::<Reach>(heap, 5, calls.as_slice(), 3, &pairs)
+    check_case::<Reach>(heap, 5, calls.as_slice(), 3, Err(Refusal::Loop), &pairs)
 }
 
 #[test]
@@ -128,7 +148,7 @@ fn longest_times(rt: HostRuntime) -> Result<(), Fail> {
         Call::Admit(1, 3, 5),
     ];
     let pairs = [pair(0, 2, 4294967294), pair(0, 3, NONE), pair(1, 3, 5)];
-    check_case::<Minutes>(rt.alloc(), 4, &calls, 2, &pairs)
+    check_case::<Minutes>(rt.alloc(), 4, &calls, 2, Ok(()), &pairs)
 }
 
 #[test]
@@ -139,5 +159,5 @@ fn licences(rt: HostRuntime) -> Result<(), Fail> {
         Call::Admit(0, 2, 6),
     ];
     let pairs = [pair(0, 2, 6), pair(1, 0, NONE)];
-    check_case::<Licence>(rt.alloc(), 3, &calls, 1, &pairs)
+    check_case::<Licence>(rt.alloc(), 3, &calls, 1, Ok(()), &pairs)
 }
