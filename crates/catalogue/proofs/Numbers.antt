@@ -2,7 +2,7 @@
 use Rattle.std.proofs.Common.{◌≡◌, ℕ, zero, suc, ◌<◌, Ok, Err, Result, sym, refl, ap, ◌∙◌, arith}
 use Rattle.std.specs.Result.{IsErrAnd}
 use Rattle.catalogue.specs.Refusals.{Refusal, number}
-use Rattle.catalogue.specs.declared.refusal.Refusal.TheVariants.{BadCount, BadSize, BadRun, LabelNone, Sealed, NoPackage, EqualEnds, Full, NoSuchArc, AlreadyHeld, NoHolds, NotHeld, ShortBuffer, Loop, NotCommand}
+use Rattle.catalogue.specs.declared.refusal.Refusal.TheVariants.{BadCount, BadSize, BadRun, LabelNone, Sealed, NoPackage, EqualEnds, Full, NoSuchArc, AlreadyHeld, NoHolds, NotHeld, ShortBuffer, Loop, Held, NotCommand}
 use Rattle.catalogue.specs.SheetMeanings.{verdict, by_number}
 
 pub numbered : (e : Refusal) → 0 < number e
@@ -20,6 +20,7 @@ numbered NoHolds = omega arith
 numbered NotHeld = omega arith
 numbered ShortBuffer = omega arith
 numbered Loop = omega arith
+numbered Held = omega arith
 numbered NotCommand = omega arith
 
 -- what `?` hands on is the callee's refusal

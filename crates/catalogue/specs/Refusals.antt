@@ -1,7 +1,7 @@
 -- The numbers of the refusals.
 use Rattle.std.specs.Prelude.{ℕ, List, ◌++◌, Ok, Err, Result, codes, decimal}
 pub use Rattle.catalogue.specs.declared.refusal.Refusal.{Refusal}
-use Rattle.catalogue.specs.declared.refusal.Refusal.TheVariants.{BadCount, BadSize, BadRun, LabelNone, Sealed, NoPackage, EqualEnds, Full, NoSuchArc, AlreadyHeld, NoHolds, NotHeld, ShortBuffer, Loop, NotCommand}
+use Rattle.catalogue.specs.declared.refusal.Refusal.TheVariants.{BadCount, BadSize, BadRun, LabelNone, Sealed, NoPackage, EqualEnds, Full, NoSuchArc, AlreadyHeld, NoHolds, NotHeld, ShortBuffer, Loop, Held, NotCommand}
 
 abbrev pub number : Refusal → ℕ
 number BadCount = 1
@@ -18,6 +18,7 @@ number NoHolds = 11
 number NotHeld = 12
 number ShortBuffer = 13
 number Loop = 14
+number Held = 15
 number NotCommand = 16
 
 -- the line that answers a refused call

@@ -28,6 +28,8 @@ pub enum Refusal {
     ShortBuffer = 13,
     // a chain leads back to its start
     Loop = 14,
+    // a changed package that is held
+    Held = 15,
     // a line that is no command here
     NotCommand = 16,
 }
