@@ -104,7 +104,7 @@ module _ {K : Type 0} (arcs : List (Arc K)) where
         (subst (λ x. Together arcs x q) (sym e) (together_sym q (group arcs n q) (group_in q)))
 
 module _ {K : Type 0} (arcs others : List (Arc K)) (n : ℕ) (ends : (a : Arc K) → Mem a arcs → a.to < n) (perm : Permᴰ arcs others) where
-  chained_perm : (p q : ℕ) → chained arcs n p q ≡ chained others n p q
+  pub chained_perm : (p q : ℕ) → chained arcs n p q ≡ chained others n p q
   chained_perm p q =
       both_ways (chained arcs n p q) (chained others n p q)
       (λ e. chained_full others n (λ a m. ends a (mem_perm a (Permᴰ.symm perm) m)) p q (chained_map arcs others (λ a. mem_perm a perm) p q (chained_sound arcs n p q e)))
@@ -113,7 +113,7 @@ module _ {K : Type 0} (arcs others : List (Arc K)) (n : ℕ) (ends : (a : Arc K)
   together_perm : (p q : ℕ) → together arcs n p q ≡ together others n p q
   together_perm p q = ap₂ (λ x y. eqb p q || (x && y)) (chained_perm p q) (chained_perm q p)
 
-  group_perm : (p : ℕ) → group arcs n p ≡ group others n p
+  pub group_perm : (p : ℕ) → group arcs n p ≡ group others n p
   group_perm p = ap (λ (test : ℕ → Bool). first_from test p 0) (λ i q. together_perm p q i)
 
   groups_perm : groups arcs n ≡ groups others n
@@ -143,7 +143,7 @@ module _ {K : Type 0} (arcs : List (Arc K)) (n : ℕ) (ends : (a : Arc K) → Me
   }
 
   -- a chain that leads back starts below n
-  chained_from : (p q : ℕ) → Chained arcs p q → p < n
+  pub chained_from : (p q : ℕ) → Chained arcs p q → p < n
   chained_from p q h = go h.0 h.1 h.2
     where
       go : (c : List (Arc K)) → 0 < length c → IsChain arcs p q c → p < n

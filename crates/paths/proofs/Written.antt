@@ -31,23 +31,26 @@ module _ {K : Type 0} (n : ℕ) (f : ℕ → ℕ → K) where
       ∙ get_or-map-range_with_len (f r) 0 n j j d hj (omega arith)
       ∙ ap (λ p. f p j) (get_or-range_with_len 0 n i 0 hi ∙ omega arith)
 
-module _ {K : Type 0} (o : Ops K) (n : ℕ) where
-  -- n × n cells that show a table are that table written out
-  pub shown : (cells : List K) (T : ℕ → ℕ → K) → length cells ≡ n * n → Shows o n cells T → cells ≡ table n T
-  shown cells T size shows = ext_get_or o.none cells (table n T) (size ∙ sym (length_table n T)) each
+  -- n × n cells that are those of the table are that table written out
+  pub written : (d : K) (cells : List K) → length cells ≡ n * n → ((i j : ℕ) → i < n → j < n → get_or cells (i * n + j) d ≡ f i j) → cells ≡ table n f
+  written d cells size shows = ext_get_or d cells (table n f) (size ∙ sym length_table) each
     where
-      each : (u : ℕ) → u < length cells → get_or cells u o.none ≡ get_or (table n T) u o.none
+      each : (u : ℕ) → u < length cells → get_or cells u d ≡ get_or (table n f) u d
       each u h =
           let some : 0 < n = positive n (omega (arith, h, size)) in
           let row : u / n < n = div_below u n n some (omega (arith, h, size)) in
           let column : u % n < n = mod_below u n some in
-          ap (λ v. get_or cells v o.none) (sym (div-add-mod' u n))
-          ∙ shows (u / n) (u % n) row column ∙ sym (get_or_table n T (u / n) (u % n) o.none row column)
-          ∙ ap (λ v. get_or (table n T) v o.none) (div-add-mod' u n)
+          ap (λ v. get_or cells v d) (sym (div-add-mod' u n))
+          ∙ shows (u / n) (u % n) row column ∙ sym (get_or_table (u / n) (u % n) d row column)
+          ∙ ap (λ v. get_or (table n f) v d) (div-add-mod' u n)
         where
           positive : (k : ℕ) → u < k * k → 0 < k
           positive zero p = absurd (omega arith)
           positive (suc k) p = omega arith
+
+module _ {K : Type 0} (o : Ops K) (n : ℕ) where
+  pub shown : (cells : List K) (T : ℕ → ℕ → K) → length cells ≡ n * n → Shows o n cells T → cells ≡ table n T
+  shown cells T size shows = written n T o.none cells size shows
 
   pub shows_table : (T : ℕ → ℕ → K) → Shows o n (table n T) T
   shows_table T i j hi hj = get_or_table n T i j o.none hi hj

@@ -4,7 +4,7 @@ use native.Mathlib.Decide.{dec_le}
 use Rattle.std.proofs.lemmas.List.{append_assoc, length-take-le, take-append-drop, drop-append-le}
 use Rattle.labels.specs.Algebra.{Ops}
 use Rattle.catalogue.specs.Meanings.{Meaning}
-use Rattle.tables.specs.Closings.{short, labels, closed, closing_leaves, rounds_answer, elimination_answer}
+use Rattle.tables.specs.Closings.{short, labels, closing_leaves, rounds_answer, elimination_answer}
 
 -- the first so many cells, or all of them
 pub length_part : {A : Type 0} (xs : List A) (k cells : ℕ) → k ≡ min cells (length xs) → length (take k xs) ≡ min cells (length xs)
@@ -24,19 +24,19 @@ long_enough n k refused x answer shorter is ok = go (dec_le (n * n) k) refused s
 pub part_kept : {A : Type 0} (k : ℕ) (old part : List A) → part ≡ take k old → part ++ drop k old ≡ old
 part_kept k old part is = ap (λ p. p ++ drop k old) is ∙ take-append-drop k old
 
+-- what is written to the first so many items of a part is written to the whole
+pub part_written : {A : Type 0} (taken : Bool) (front : List A) (n k : ℕ) (old part : List A) → k ≤ length old → (taken ≡ true → n ≤ k)
+    → part ≡ cond taken (front ++ drop n (take k old)) (take k old) → part ++ drop k old ≡ cond taken (front ++ drop n old) old
+part_written true front n k old part within fits left =
+    ap (λ p. p ++ drop k old) left ∙ append_assoc front (drop n (take k old)) (drop k old) ∙ ap (λ rest. front ++ rest)
+    (sym (drop-append-le n (take k old) (drop k old) (omega (arith, length-take-le k old within, fits refl)))
+    ∙ ap (drop n) (take-append-drop k old))
+part_written false front n k old part within fits left = part_kept k old part left
+
 module _ {K : Type 0} (o : Ops K) (m : Meaning K) where
   pub part_left : {A : Type 0} (answer : Result A ℕ) (k : ℕ) (old part : List K) → k ≤ length old → (is_ok answer ≡ true → m.n * m.n ≤ k)
       → part ≡ closing_leaves o m answer (take k old) → part ++ drop k old ≡ closing_leaves o m answer old
-  part_left answer k old part within fits left = ap (λ p. p ++ drop k old) left ∙ go (is_ok answer) fits
-    where
-      whole : m.n * m.n ≤ k → drop (m.n * m.n) (take k old) ++ drop k old ≡ drop (m.n * m.n) old
-      whole le =
-          sym (drop-append-le (m.n * m.n) (take k old) (drop k old) (omega (arith, length-take-le k old within)))
-          ∙ ap (drop (m.n * m.n)) (take-append-drop k old)
-
-      go : (b : Bool) → (b ≡ true → m.n * m.n ≤ k) → cond b (closed o m (take k old)) (take k old) ++ drop k old ≡ cond b (closed o m old) old
-      go true f = append_assoc (labels o m) (drop (m.n * m.n) (take k old)) (drop k old) ∙ ap (λ rest. labels o m ++ rest) (whole (f refl))
-      go false f = take-append-drop k old
+  part_left answer k old part = part_written (is_ok answer) (labels o m) (m.n * m.n) k old part
 
   pub elimination_part : (answer : Result (Unit {0}) ℕ) (k cells : ℕ) (old part : List K) → k ≡ min cells (length old)
       → answer ≡ elimination_answer o m (length (take k old)) → part ≡ closing_leaves o m answer (take k old)

@@ -17,7 +17,7 @@ use Rattle.tables.proofs.Areas.{row_within}
 
 module _ {A : Type 0} (cells : List A) (n p : ℕ) where
   -- what a row answers where no check fails
-  row_is : count_test n ≡ true → n * n ≤ length cells → p < n → row_answer cells n p ≡ Ok (between (p * n) (p * n + n) cells)
+  pub row_is : count_test n ≡ true → n * n ≤ length cells → p < n → row_answer cells n p ≡ Ok (between (p * n) (p * n + n) cells)
   row_is counted long inside =
       ap (λ b. cond {A = Result (List A) ℕ} (not b) (Err 1) (cond (short n (length cells)) (Err 13) (cond (leb n p) (Err 6) (Ok (between (p * n) (p * n + n) cells))))) counted
       ∙ ap₂ (λ b d. cond {A = Result (List A) ℕ} b (Err 13) (cond d (Err 6) (Ok (between (p * n) (p * n + n) cells)))) (le-ltb (length cells) (n * n) long) (lt-leb n p inside)

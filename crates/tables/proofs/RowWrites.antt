@@ -50,7 +50,7 @@ module _ {M : Type 0} (o : Ops M) (first : M) where
       ∙ step row via j x y h (omega arith)
       ∙ ap (λ k. relaxed o first row (take k via)) (sym (add-one j))
 
-module _ {M : Type 0} (o : Ops M) (n : ℕ) (cells new : List M) (f : ℕ) (room : f * n + n ≤ length cells) (fits : length new ≡ n) where
+module _ {M : Type 0} (n : ℕ) (cells new : List M) (f : ℕ) (room : f * n + n ≤ length cells) (fits : length new ≡ n) where
   -- what is read in that row
   pub cell_written : (j : ℕ) (d : M) → j < n → get_or (put_row n cells f new) (f * n + j) d ≡ get_or new j d
   cell_written j d hj =
@@ -75,20 +75,21 @@ module _ {M : Type 0} (o : Ops M) (n : ℕ) (cells new : List M) (f : ℕ) (room
           ∙ ap (λ l. get_or l past d) (drop-put_mid (f * n) n cells new (f * n + n) (omega arith) (omega arith) fits)
           ∙ get_or-drop (f * n + n) cells past d)
 
-module _ {M : Type 0} (o : Ops M) (n : ℕ) where
+module _ {M : Type 0} (n : ℕ) where
   pub cell_row : (cells : List M) (i j : ℕ) (d : M) → j < n → get_or (row n cells i) j d ≡ get_or cells (i * n + j) d
   cell_row cells i j d hj = get_or-between cells (i * n) (i * n + n) j d (omega arith)
 
   pub length_row : (cells : List M) (i : ℕ) → i * n + n ≤ length cells → length (row n cells i) ≡ n
   length_row cells i room = length-between cells (i * n) (i * n + n) room ∙ (let e : (i * n + n) - i * n ≡ n = omega arith in e)
 
+module _ {M : Type 0} (o : Ops M) (n : ℕ) where
   -- row f is relaxed by a row of n labels
   pub row_relaxed : (first : M) (cells via : List M) (f : ℕ) → f * n + n ≤ length cells → length via ≡ n → (i j : ℕ) → j < n
       → cell o n (put_row n cells f (relaxed o first (row n cells f) via)) i j ≡ with_ways o first f (λ j. get_or via j o.none) (cell o n cells) i j
   row_relaxed first cells via f room fits i j hj = go (ℕ_discrete f i)
     where
       wide : length (row n cells f) ≡ n
-      wide = length_row cells f room
+      wide = length_row n cells f room
 
       long : length (relaxed o first (row n cells f) via) ≡ n
       long = length_relaxed o first (row n cells f) via ∙ wide
@@ -96,10 +97,10 @@ module _ {M : Type 0} (o : Ops M) (n : ℕ) where
       go : Dec (f ≡ i) → cell o n (put_row n cells f (relaxed o first (row n cells f) via)) i j ≡ with_ways o first f (λ j. get_or via j o.none) (cell o n cells) i j
       go (yes e) =
           ap (λ p. cell o n (put_row n cells f (relaxed o first (row n cells f) via)) p j) (sym e)
-          ∙ cell_written o n cells (relaxed o first (row n cells f) via) f room long j o.none hj
+          ∙ cell_written n cells (relaxed o first (row n cells f) via) f room long j o.none hj
           ∙ get_or_relaxed o first (row n cells f) via j (omega (arith, wide)) (fits ∙ sym wide)
-          ∙ ap (λ x. o.join x (o.extend first (get_or via j o.none))) (cell_row cells f j o.none hj ∙ ap (λ p. cell o n cells p j) e)
+          ∙ ap (λ x. o.join x (o.extend first (get_or via j o.none))) (cell_row n cells f j o.none hj ∙ ap (λ p. cell o n cells p j) e)
           ∙ sym (here f i _ _ e)
       go (no ne) =
-          cell_beside o n cells (relaxed o first (row n cells f) via) f room long i j o.none hj ne
+          cell_beside n cells (relaxed o first (row n cells f) via) f room long i j o.none hj ne
           ∙ sym (elsewhere f i _ _ ne)

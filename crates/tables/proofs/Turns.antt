@@ -50,9 +50,9 @@ module _ {K : Type 0} (o : Ops K) (laws : Laws o) where
         along_some m o n (led o S (cell o n changed)) (over_arc (cell o n changed)) (led_push S (cell o n changed)) k found along a e after
         (subst (λ xs. Shows o n xs (λ i j. o.join (cell o n found i j) (over_arc (cell o n changed) a i j))) (sym (same ∙ made))
         (λ i j hi hj.
-        row_relaxed o n a.label found via a.from (omega (arith, long-found, row_within n a.from inside.from_in)) (length_row o n changed a.to (omega (arith, long-changed, row_within n a.to inside.to_in))) i j hj
+        row_relaxed o n a.label found via a.from (omega (arith, long-found, row_within n a.from inside.from_in)) (length_row n changed a.to (omega (arith, long-changed, row_within n a.to inside.to_in))) i j hj
         ∙ joined_or_not (eqb a.from i) (cell o n found i j) (o.extend a.label (get_or via j o.none))
-        ∙ ap (λ x. o.join (cell o n found i j) (cond (eqb a.from i) (o.extend a.label x) o.none)) (cell_row o n changed a.to j o.none hj)))
+        ∙ ap (λ x. o.join (cell o n found i j) (cond (eqb a.from i) (o.extend a.label x) o.none)) (cell_row n changed a.to j o.none hj)))
 
 -- once q rounds are made: the table, what the last of them changed, and nothing found yet
 pub record Turn {K : Type 0} (o : Ops K) (arcs : List (Arc K)) (n q : ℕ) (cells changed found : List K) : Type 0 where
