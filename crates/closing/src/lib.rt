@@ -1,7 +1,6 @@
-// Sort, and closings: the label of every pair of packages.
+// Closings: the label of every pair of packages.
 #![tactic(auto)]
 
-mod compressed;
 mod direct;
 mod elimination;
 mod label;
@@ -10,13 +9,10 @@ mod places;
 mod relax;
 mod rounds;
 mod rows;
-mod search;
-mod sorting;
 
 pub use elimination::by_elimination;
-pub use graphs::{NO_WAVE, PackageRecord};
 pub use label::label_of;
 pub use order::by_order;
 pub use rounds::by_rounds;
 pub use rows::row;
-pub use sorting::sort;
+pub use sorting::{NO_WAVE, PackageRecord, sort};

@@ -9,21 +9,20 @@ ghost use Rattle.catalogue.specs.Meanings.{in_force};
 ghost use Rattle.catalogue.specs.Calls.{arc_at};
 ghost use Rattle.tables.specs.Tables.{Square, row, put_row, relaxed};
 ghost use Rattle.tables.specs.Closings.{labels, closing_leaves};
-ghost use Rattle.graphs.specs.Records.{Sorted};
+ghost use Rattle.graphs.specs.Records.{own_names, Sorted};
 ghost use Rattle.graphs.specs.Answers.{order_lacks, order_answer};
 ghost use Rattle.graphs.specs.Rows.{places, Compressed};
 ghost use Rattle.graphs.specs.Searches.{Lists};
 ghost use Rattle.graphs.specs.Orders.{led, led_row, EndsFirst};
 
-use crate::compressed::{Entries, fill_rows};
 use crate::direct::{clear, join_to};
 use crate::places::Side;
 use crate::relax::relax_row;
-use crate::sorting::{lacks, no_loop, sort_with};
 use catalogue::{Catalogue, Refusal};
 use graphs::PackageRecord;
 use labels::Label;
 use paths::Arc;
+use sorting::{Entries, fill_rows, lacks, sort_in_order};
 
 // Closes by order: sorts, and takes the packages by rising rank. A chain that leads back to its start
 // is refused, and the records are then as sort leaves them.
@@ -62,8 +61,7 @@ fn close<C: Catalogue>(
     }
     let (order, spare) = words.split_at_mut(side.n);
     sort_straight(catalogue, records, order, spare)?;
-    fill(catalogue, order, spare, &mut table[..side.area()]);
-    Ok(())
+    fill(catalogue, order, spare, &mut table[..side.area()])
 }
 
 // Sorts, and refuses a chain that leads back to its start. Where there is none, the end of each arc
@@ -83,25 +81,45 @@ fn sort_straight<C: Catalogue>(
     ensures first { is_ok (answer result) ≡ true → EndsFirst (in_force (C.Catalogue.meaning catalogue.now)) order.new (C.Catalogue.meaning catalogue.now).n }
     ensures straight { is_ok (answer result) ≡ true → Loop (in_force (C.Catalogue.meaning catalogue.now)) → ⊥ }
 {
-    sort_with(catalogue, records, order, spare);
+    sort_in_order(catalogue, records, order, spare)?;
     no_loop(&records[..catalogue.n() as usize])
 }
 
+// Refuses records in which a package is not its group's name: then a chain leads back to its start.
+#[tactic(auto, using(graphs::proofs::OwnNames::all_own, graphs::proofs::OwnNames::one_other))]
+fn no_loop(records: &[PackageRecord]) -> Result<(), Refusal>
+    ensures { answer result ≡ (if own_names records.now then Ok tt else Err 14) }
+{
+    for (p, record) in records.iter().enumerate() {
+        if record.group as usize != p {
+            return Err(Refusal::Loop);
+        }
+    }
+    Ok(())
+}
+
 // L(n) into a table of n × n cells, row by row in the order given.
-fn fill<C: Catalogue>(catalogue: &C, order: &[u32], spare: &mut [u32], cells: &mut [C::Label])
+fn fill<C: Catalogue>(
+    catalogue: &C,
+    order: &[u32],
+    spare: &mut [u32],
+    cells: &mut [C::Label],
+) -> Result<(), Refusal>
     requires square { Square (C.Catalogue.meaning catalogue.now).n cells.old }
     requires long { length order.now ≡ (C.Catalogue.meaning catalogue.now).n }
     requires spare { 2 * (C.Catalogue.meaning catalogue.now).n + 1 + length (C.Catalogue.meaning catalogue.now).stock ≤ length spare.old }
     requires listed { Lists order.now (C.Catalogue.meaning catalogue.now).n }
     requires first { EndsFirst (in_force (C.Catalogue.meaning catalogue.now)) order.now (C.Catalogue.meaning catalogue.now).n }
     requires straight { Loop (in_force (C.Catalogue.meaning catalogue.now)) → ⊥ }
-    ensures { cells.new ≡ labels C.Label.Label.ops (C.Catalogue.meaning catalogue.now) }
+    ensures answers { answer result ≡ Ok tt }
+    ensures cells { cells.new ≡ labels C.Label.Label.ops (C.Catalogue.meaning catalogue.now) }
 {
     let n = catalogue.n() as usize;
     let (starts, spare) = spare.split_at_mut(n + 1);
     let (next, entries) = spare.split_at_mut(n);
-    fill_rows(catalogue, Entries::Places, starts, next, entries);
+    fill_rows(catalogue, Entries::Places, starts, next, entries)?;
     fill_in_turn(catalogue, order, starts, entries, cells);
+    Ok(())
 }
 
 // The same, where the places of each package's arcs are entered in its row.

@@ -5,6 +5,6 @@
 pub mod elimination;
 pub mod order;
 pub mod rounds;
-pub mod sorting;
+pub mod sort;
 #[cfg(test)]
 mod tests;

@@ -2,7 +2,7 @@
 use crate::elimination::minutes_by_elimination;
 use crate::order::minutes_by_order;
 use crate::rounds::minutes_by_rounds;
-use crate::sorting::sort_minutes;
+use crate::sort::sort_minutes;
 use closing::{NO_WAVE, PackageRecord};
 use labels::Minutes;
 

@@ -45,8 +45,8 @@ module _ {K : Type 0} (o : Ops K) (laws : Laws o) where
   arc_led n a cells mid new from to apart square first then same i j hi hj =
       ap (λ xs. cell o n xs i j) then
       ∙ row_relaxed o n a.label mid (row n mid a.to) a.from (omega (arith, square, same, row_within n a.from from))
-      (length_row o n mid a.to (omega (arith, square, same, row_within n a.to to))) i j hj
-      ∙ ap₂ (λ x y. cond (eqb a.from i) (o.join x (o.extend a.label y)) x) (joined i hi) (cell_row o n mid a.to j o.none hj ∙ joined a.to to ∙ ap (o.join (cell o n cells a.to j)) (elsewhere a.from a.to _ _ apart) ∙ none_join o laws (cell o n cells a.to j))
+      (length_row n mid a.to (omega (arith, square, same, row_within n a.to to))) i j hj
+      ∙ ap₂ (λ x y. cond (eqb a.from i) (o.join x (o.extend a.label y)) x) (joined i hi) (cell_row n mid a.to j o.none hj ∙ joined a.to to ∙ ap (o.join (cell o n cells a.to j)) (elsewhere a.from a.to _ _ apart) ∙ none_join o laws (cell o n cells a.to j))
       ∙ go (eqb a.from i)
     where
       joined : (p : ℕ) → p < n → cell o n mid p j ≡ o.join (cell o n cells p j) (alone o a p j)
@@ -101,9 +101,9 @@ row_cleared {K} o n p start k old new inside square at wide = subst (λ v. P v k
       where
         go : Dec (p ≡ i) → cell o n (put_row n old p new) i j ≡ cond (eqb i p) o.none (cell o n old i j)
         go (yes e) =
-            ap (λ q. cell o n (put_row n old p new) q j) (sym e) ∙ cell_written o n old new p room (same ∙ mid) j o.none hj ∙ none j (omega (arith, mid))
+            ap (λ q. cell o n (put_row n old p new) q j) (sym e) ∙ cell_written n old new p room (same ∙ mid) j o.none hj ∙ none j (omega (arith, mid))
             ∙ sym (here i p _ _ (sym e))
-        go (no ne) = cell_beside o n old new p room (same ∙ mid) i j o.none hj ne ∙ sym (elsewhere i p _ _ (λ e. ne (sym e)))
+        go (no ne) = cell_beside n old new p room (same ∙ mid) i j o.none hj ne ∙ sym (elsewhere i p _ _ (λ e. ne (sym e)))
 
 module _ {K : Type 0} (o : Ops K) (laws : Laws o) (m : Meaning K) (p : ℕ) (old : List K) where
   -- no entry yet

@@ -17,18 +17,26 @@ module _ {K : Type 0} (arcs : List (Arc K)) (n : ℕ) (ends : (a : Arc K) → Me
     falls = λ a h ne. let e = ends a h in omega (arith, r.falls a h ne, same a.from e.0, same a.to e.1);
   }
 
-  -- sorted in the first k records, with the others behind them
-  pub sorted_part : (k : ℕ) (old part : List PackageRecord) → n ≤ k → k ≤ length old → length part ≡ k → Sorted arcs n (take k old) part
-      → Sorted arcs n old (part ++ drop k old)
-  sorted_part k old part le within long s =
-      let first : take n (part ++ drop k old) ≡ take n part = take-append-le n part (drop k old) (omega (arith, long, le)) in
-      record {
-        groups = ap (map (λ r. r.group)) first ∙ s.groups;
-        waves = ap (map (λ r. r.wave)) first ∙ s.waves;
-        beyond =
-            drop-append-le n part (drop k old) (omega (arith, long, le)) ∙ ap (λ r. r ++ drop k old) s.beyond
-            ∙ sym (drop-append-le n (take k old) (drop k old) (omega (arith, length-take-le k old within, le)))
-            ∙ ap (drop n) (take-append-drop k old);
-        ranks = ranked_as (λ p. (of part p).rank) (λ p. (of (part ++ drop k old) p).rank)
-            (λ p h. ap (λ r. r.rank) (sym (get_or_append_left part (drop k old) blank p (omega (arith, long, le, h))))) s.ranks;
-      }
+  -- of the first k records, with the others behind them
+  module _ (k : ℕ) (old part : List PackageRecord) (le : n ≤ k) (within : k ≤ length old) (long : length part ≡ k) where
+    pub first_part : take n (part ++ drop k old) ≡ take n part
+    first_part = take-append-le n part (drop k old) (omega (arith, long, le))
+
+    pub beyond_part : drop n part ≡ drop n (take k old) → drop n (part ++ drop k old) ≡ drop n old
+    beyond_part beyond =
+        drop-append-le n part (drop k old) (omega (arith, long, le)) ∙ ap (λ r. r ++ drop k old) beyond
+        ∙ sym (drop-append-le n (take k old) (drop k old) (omega (arith, length-take-le k old within, le)))
+        ∙ ap (drop n) (take-append-drop k old)
+
+    pub ranks_part : Ranked arcs n (λ p. (of part p).rank) → Ranked arcs n (λ p. (of (part ++ drop k old) p).rank)
+    ranks_part =
+        ranked_as (λ p. (of part p).rank) (λ p. (of (part ++ drop k old) p).rank)
+        (λ p h. ap (λ r. r.rank) (sym (get_or_append_left part (drop k old) blank p (omega (arith, long, le, h)))))
+
+    pub sorted_part : Sorted arcs n (take k old) part → Sorted arcs n old (part ++ drop k old)
+    sorted_part s = record {
+      groups = ap (map (λ r. r.group)) first_part ∙ s.groups;
+      waves = ap (map (λ r. r.wave)) first_part ∙ s.waves;
+      beyond = beyond_part s.beyond;
+      ranks = ranks_part s.ranks;
+    }
