@@ -1,0 +1,16 @@
+pub mod Worked
+pub mod Condensing
+pub mod Reduction
+pub mod Meaning
+pub mod Changed
+pub mod Largest
+pub mod Heights
+pub mod Unmoved
+pub mod Tallies
+pub mod Laws
+pub mod LeastWaits
+pub mod Linking
+pub mod Alike
+pub mod PlannedParts
+pub mod Merging
+pub mod Building
