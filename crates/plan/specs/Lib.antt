@@ -1,0 +1,4 @@
+pub mod Tables
+pub mod Waves
+pub mod Planning
+pub mod Tally
