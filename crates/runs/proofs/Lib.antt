@@ -1,2 +1,4 @@
 pub mod Filing
+pub mod Promised
 pub mod Stepping
+pub mod Asked

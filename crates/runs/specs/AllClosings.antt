@@ -6,7 +6,7 @@ use Rattle.catalogue.specs.Meanings.{Meaning}
 use Rattle.tables.specs.Closings.{rounds_answer, elimination_answer, closing_leaves, Agree}
 use Rattle.graphs.specs.Answers.{order_lacks, order_answer}
 use Rattle.graphs.specs.declared.record.PackageRecord.{PackageRecord}
-use Rattle.runs.specs.Runs.{Lengths, lengths, Filed}
+use Rattle.runs.specs.Runs.{Filed}
 use Rattle.runs.specs.declared.agreement.Closings.{Closings}
 
 -- the buffers that a run and the closings after it are lent
@@ -25,9 +25,6 @@ pub record Buffers (K : Type 0) : Type 0 where
 abbrev pub lent : {K : Type 0} → List K → List K → List K → List K → List K → List PackageRecord → List ℕ → Buffers K
 lent table changed found second third records words =
     record { table = table; changed = changed; found = found; second = second; third = third; records = records; words = words }
-
-abbrev pub sizes : {K : Type 0} → Buffers K → Lengths
-sizes t = lengths t.table t.changed t.found t.records t.words
 
 -- what the closings answer, and what they leave; those that accept leave the same labels
 pub record AllClosed {K : Type 0} (o : Ops K) (m : Meaning K) (old new : Buffers K) (r : Closings) : Type 0 where
