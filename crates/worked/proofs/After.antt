@@ -1,37 +1,44 @@
 -- What is told of the meaning that a run leaves is told of the reckoned one.
-use Rattle.std.proofs.Common.{◌≡◌, ℕ, true, false, not, List, length, is_ok, Ok, Err, Result, sym, ap, ◌∙◌, subst, ap₂, true≢false}
+use Rattle.std.proofs.Common.{◌≡◌, ℕ, true, false, not, List, [], length, is_ok, Ok, Err, Result, sym, refl, ap, ◌∙◌, subst, ap₂, true≢false}
 use Rattle.labels.specs.Algebra.{Ops}
 use Rattle.catalogue.specs.Refusals.{answer}
 use Rattle.runs.specs.declared.agreement.Closings.{Closings}
-use Rattle.runs.specs.declared.step.Step.{Step}
+use Rattle.runs.specs.Steps.{Step}
+use Rattle.runs.specs.declared.step.Outcome.{Outcome}
 use Rattle.catalogue.specs.Meanings.{Meaning, in_force}
 use Rattle.graphs.specs.Records.{Sorted}
 use Rattle.graphs.specs.declared.record.PackageRecord.{PackageRecord}
 use Rattle.runs.proofs.Filing.{taken, filed_whole}
-use Rattle.runs.specs.Runs.{Lengths, lengths, tables, some_spares_used, Filed, Files}
+use Rattle.runs.specs.Runs.{Memory, Lengths, lengths, sizes, tables, sets_left, some_spares_used, Filed, Files}
+use Rattle.runs.specs.Promises.{reckoned, Asked}
 use Rattle.graphs.specs.Answers.{lacks, sort_answer}
 use Rattle.tables.specs.Closings.{label_answer}
-use Rattle.runs.specs.AllClosings.{Buffers, sizes, AllClosed}
-use Rattle.runs.proofs.Stepping.{same_lengths}
-use Rattle.worked.specs.Asked.{Told, Named, SortedAfter, SortedFrom, count_from, reckoned}
+use Rattle.runs.specs.AllClosings.{Buffers, AllClosed}
+use Rattle.runs.proofs.Stepping.{same_sizes}
+use Rattle.worked.specs.Asked.{with_sets, Told, AskedFrom, Named, SortedAfter, SortedFrom, count_from}
 
 module _ {K : Type 0} (o : Ops K) (now m : Meaning K) (steps : List (Step K)) (is : now ≡ reckoned o m steps) where
-  pub told_after : (r : Closings) (old mid new : Buffers K)
+  pub told_after : (r : Closings) (old mid new : Buffers K) (sets free : List ℕ)
       → length mid.table ≡ length old.table → length mid.changed ≡ length old.changed → length mid.found ≡ length old.found
-      → length mid.records ≡ length old.records → length mid.words ≡ length old.words → mid.second ≡ old.second → mid.third ≡ old.third
-      → mid.table ≡ tables o m (sizes old) steps old.table
-      → (some_spares_used o m (sizes old) steps ≡ false → (mid.changed ≡ old.changed) × (mid.found ≡ old.found))
-      → Files o m (sizes old) steps old.records mid.records old.words mid.words
-      → AllClosed o now mid new r → Told o m steps old new r
-  told_after r old mid new p q s v w u z left spares files closed = (
+      → length mid.records ≡ length old.records → length mid.words ≡ length old.words → length free ≡ length sets
+      → mid.second ≡ old.second → mid.third ≡ old.third
+      → mid.table ≡ tables o m (sizes (with_sets old sets)) steps old.table
+      → (some_spares_used o m (sizes (with_sets old sets)) steps ≡ false → (mid.changed ≡ old.changed) × (mid.found ≡ old.found))
+      → Files o m (sizes (with_sets old sets)) steps old.records mid.records old.words mid.words
+      → free ≡ sets_left o m (sizes (with_sets old sets)) steps sets
+      → AllClosed o now mid new r → Told o m steps old new sets free r
+  told_after r old mid new sets free p q s v w x u z left spares files bytes closed = (
     mid,
     record {
-      table = left;
-      spares = spares;
-      files = files;
+      run = record {
+        table = left;
+        sets = bytes;
+        files = files;
+        spares = spares;
+        as_long = same_sizes (with_sets mid free) (with_sets old sets) p q s v w x;
+      };
       second = u;
       third = z;
-      as_long = same_lengths mid.table mid.changed mid.found old.table old.changed old.found mid.records old.records mid.words old.words p q s v w;
     },
     subst (λ k. AllClosed o k mid new r) is closed,
   )
@@ -39,13 +46,13 @@ module _ {K : Type 0} (o : Ops K) (now m : Meaning K) (steps : List (Step K)) (i
   pub label_after_is : (answer : Result K ℕ) (a a' from to : ℕ) → a ≡ a' → answer ≡ label_answer o now a from to → answer ≡ label_answer o (reckoned o m steps) a' from to
   label_after_is answer a a' from to p e = e ∙ ap₂ (λ k x. label_answer o k x from to) is p
 
-  pub sorted_after : (told : Result ℕ ℕ) (table changed found : List K) (old mid new : List PackageRecord) (words free words' : List ℕ)
-      → length mid ≡ length old → length free ≡ length words → Files o m (lengths table changed found old words) steps old mid words free
+  pub sorted_after : (told : Result ℕ ℕ) (table changed found : List K) (old mid new : List PackageRecord) (words free words' sets : List ℕ)
+      → length mid ≡ length old → length free ≡ length words → Files o m (lengths table changed found old words sets) steps old mid words free
       → told ≡ sort_answer now (length mid) (length free)
       → (is_ok told ≡ true → Sorted (in_force now) now.n mid new)
       → (is_ok told ≡ false → (new ≡ mid) × (words' ≡ free))
-      → SortedAfter o m steps (lengths table changed found old words) old new words words'
-  sorted_after told table changed found old mid new words free words' p q files is_told sorts keeps =
+      → SortedAfter o m steps (lengths table changed found old words sets) old new words words'
+  sorted_after told table changed found old mid new words free words' sets p q files is_told sorts keeps =
       let lacking = lacks (reckoned o m steps) (length old) (length words) in
       let e = is_told ∙ ap₂ (sort_answer now) p q ∙ ap (λ k. sort_answer k (length old) (length words)) is in
       let ok = taken lacking _ told e in
@@ -59,3 +66,14 @@ pub named_after : {K : Type 0} (o : Ops K) (first : Result (Meaning K) ℕ) (ste
 named_after o (Ok m) steps answer t old new words words' told left ok =
     (left.sorted.sorted (sym (taken (lacks (reckoned o m steps) t.records t.words) _ answer told) ∙ ok)).groups
 named_after o (Err k) steps answer t old new words words' told left ok = true≢false (sym ok ∙ ap is_ok told)
+
+-- what is asked of what was made, and of what was not
+module _ {K : Type 0} (o : Ops K) (first : Result (Meaning K) ℕ) (calls : List (Step K)) (question : Step K) where
+  pub asked_from : (m : Meaning K) (old new : Memory K) (a : Result Outcome ℕ) → Ok m ≡ first → Asked o m calls question old new a
+      → AskedFrom o first calls question old new a
+  unfolding Asked AskedFrom
+  asked_from m old new a made asked = subst (λ r. AskedFrom o r calls question old new a) made (asked m [] refl)
+
+  pub not_asked : (k : ℕ) (old : Memory K) → Err k ≡ first → AskedFrom o first calls question old old (Err k)
+  unfolding AskedFrom
+  not_asked k old refused = subst (λ r. AskedFrom o r calls question old old (Err k)) refused (refl, refl)

@@ -1,2 +1,4 @@
 pub mod After
 pub mod SixArcs
+pub mod Planned
+pub mod TwoOrders

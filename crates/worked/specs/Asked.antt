@@ -8,30 +8,29 @@ use Rattle.paths.specs.Groups.{groups}
 use Rattle.catalogue.specs.Makings.{Making, first_meaning}
 use Rattle.catalogue.specs.declared.call.Call.{Call}
 use Rattle.catalogue.specs.Runs.{reckon}
-use Rattle.runs.specs.declared.step.Step.{Step}
+use Rattle.runs.specs.Steps.{Step}
+use Rattle.runs.specs.declared.step.Outcome.{Outcome}
 use Rattle.tables.specs.Closings.{label_answer, closing_leaves}
 use Rattle.graphs.specs.declared.record.PackageRecord.{PackageRecord}
 use Rattle.graphs.specs.Answers.{lacks, sort_answer}
-use Rattle.runs.specs.Runs.{Lengths, alterations, tables, some_spares_used, Filed, Files}
-use Rattle.runs.specs.AllClosings.{Buffers, sizes, AllClosed}
+use Rattle.runs.specs.Runs.{Lengths, Memory, memory, tables, sets_left, some_spares_used, Filed, Files}
+use Rattle.runs.specs.Promises.{reckoned, Ran, Promise}
+use Rattle.runs.specs.AllClosings.{Buffers, AllClosed}
 use Rattle.runs.specs.declared.agreement.Closings.{Closings}
 
--- what the steps leave of a meaning
-abbrev pub reckoned : {K : Type 0} → Ops K → Meaning K → List (Step K) → Meaning K
-reckoned o m steps = reckon o m (alterations steps)
+-- the memory of a run: of these buffers those that a run takes, and a set table
+abbrev pub with_sets : {K : Type 0} → Buffers K → List ℕ → Memory K
+with_sets b sets = memory b.table b.changed b.found b.records b.words sets
 
--- what the steps leave in the buffers
-pub record Ran {K : Type 0} (o : Ops K) (m : Meaning K) (steps : List (Step K)) (old new : Buffers K) : Type 0 where
-  pub table : new.table ≡ tables o m (sizes old) steps old.table
-  pub spares : some_spares_used o m (sizes old) steps ≡ false → (new.changed ≡ old.changed) × (new.found ≡ old.found)
-  pub files : Files o m (sizes old) steps old.records new.records old.words new.words
+-- what the steps leave in the buffers and the set table
+pub record RanBeside {K : Type 0} (o : Ops K) (m : Meaning K) (steps : List (Step K)) (old new : Buffers K) (sets sets' : List ℕ) : Type 0 where
+  pub run : Ran o m steps (with_sets old sets) (with_sets new sets')
   pub second : new.second ≡ old.second
   pub third : new.third ≡ old.third
-  pub as_long : sizes new ≡ sizes old
 
--- what the closings answer and leave after the steps
-abbrev pub Told : {K : Type 0} → Ops K → Meaning K → List (Step K) → Buffers K → Buffers K → Closings → Type 0
-Told {K} o m steps old new r = (ran : Buffers K) × Ran o m steps old ran × AllClosed o (reckoned o m steps) ran new r
+-- what the closings answer and leave after the steps; they leave the set table
+abbrev pub Told : {K : Type 0} → Ops K → Meaning K → List (Step K) → Buffers K → Buffers K → List ℕ → List ℕ → Closings → Type 0
+Told {K} o m steps old new sets sets' r = (ran : Buffers K) × RanBeside o m steps old ran sets sets' × AllClosed o (reckoned o m steps) ran new r
 
 -- what the steps leave in the records and work words, and what sort makes of that
 pub record SortedAfter {K : Type 0} (o : Ops K) (m : Meaning K) (steps : List (Step K)) (t : Lengths) (old new : List PackageRecord) (words words' : List ℕ) : Type 0 where
@@ -42,11 +41,17 @@ pub record SortedAfter {K : Type 0} (o : Ops K) (m : Meaning K) (steps : List (S
 
 module _ {K : Type 0} (o : Ops K) where
   -- told from that first meaning on, or refused with its number, and then every buffer is as it was
-  abbrev pub ToldFrom : Result (Meaning K) ℕ → List (Step K) → Buffers K → Buffers K → Result Closings Refusal → Type 0
-  ToldFrom (Ok m) steps old new (Ok r) = Told o m steps old new r
-  ToldFrom (Ok m) steps old new (Err e) = ⊥
-  ToldFrom (Err k) steps old new (Ok r) = ⊥
-  ToldFrom (Err k) steps old new (Err e) = (number e ≡ k) × (new ≡ old)
+  abbrev pub ToldFrom : Result (Meaning K) ℕ → List (Step K) → Buffers K → Buffers K → List ℕ → List ℕ → Result Closings Refusal → Type 0
+  ToldFrom (Ok m) steps old new sets sets' (Ok r) = Told o m steps old new sets sets' r
+  ToldFrom (Ok m) steps old new sets sets' (Err e) = ⊥
+  ToldFrom (Err k) steps old new sets sets' (Ok r) = ⊥
+  ToldFrom (Err k) steps old new sets sets' (Err e) = (number e ≡ k) × (new ≡ old) × (sets' ≡ sets)
+
+  -- what is asked after the calls has the promise from that first meaning on, or is refused with its number, and then
+  -- the memory is as it was
+  unfoldable pub AskedFrom : Result (Meaning K) ℕ → List (Step K) → Step K → Memory K → Memory K → Result Outcome ℕ → Type 0
+  AskedFrom (Ok m) calls question old new a = (mid : Memory K) × Ran o m calls old mid × Promise o m calls question mid new a
+  AskedFrom (Err k) calls question old new a = (a ≡ Err k) × (new ≡ old)
 
   -- the label of a pair after the steps, from that first meaning on
   abbrev pub label_from : Result (Meaning K) ℕ → List (Step K) → ℕ → ℕ → ℕ → Result K ℕ
@@ -71,7 +76,12 @@ module _ {K : Type 0} (o : Ops K) where
   tables_from (Ok m) steps t old = tables o m t steps old
   tables_from (Err k) steps t old = old
 
-  -- what they leave in the records and work words
+  -- in the set table
+  abbrev pub sets_from : Result (Meaning K) ℕ → List (Step K) → Lengths → List ℕ → List ℕ
+  sets_from (Ok m) steps t old = sets_left o m t steps old
+  sets_from (Err k) steps t old = old
+
+  -- and in the records and work words
   abbrev pub FilesFrom : Result (Meaning K) ℕ → List (Step K) → Lengths → List PackageRecord → List PackageRecord → List ℕ → List ℕ → Type 0
   FilesFrom (Ok m) steps t old new words words' = Files o m t steps old new words words'
   FilesFrom (Err k) steps t old new words words' = (new ≡ old) × (words' ≡ words)

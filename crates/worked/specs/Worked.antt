@@ -1,5 +1,6 @@
 -- Worked cases, each from a making and a list of calls.
-use Rattle.std.specs.Prelude.{◌≡◌, ℕ, List, [], ◌∷◌, ◌++◌, Ok, Err, Result}
+use Rattle.std.specs.Prelude.{◌≡◌, ℕ, List, [], ◌∷◌, ◌++◌, map, Ok, Err, Result}
+use Rattle.std.specs.List.{range_with_len}
 use Rattle.labels.specs.declared.kinds.Reach.TheVariants.{Yes}
 use Rattle.labels.specs.declared.kinds.Minutes.{Minutes}
 use Rattle.labels.specs.declared.kinds.Licence.{Licence}
@@ -12,7 +13,11 @@ use Rattle.catalogue.specs.Makings.{Making, ledger_of, holding_over}
 use Rattle.catalogue.specs.declared.call.Call.{Call}
 use Rattle.catalogue.specs.declared.call.Call.TheVariants.{Admit, Withdraw, Hold}
 use Rattle.graphs.specs.Answers.{sort_answer, order_answer}
+use Rattle.plans.specs.declared.counts.PlanCounts.{PlanCounts}
+use Rattle.plans.specs.Plans.{jobs, wave_of, bytes}
+use Rattle.plans.specs.Answers.{plan_answer}
 use Rattle.worked.specs.Asked.{asked}
+use Rattle.worked.specs.Fives.{counted}
 
 -- six arcs between five packages, each with what f makes of its minutes
 abbrev pub six : {K : Type 0} → (ℕ → K) → List (Call K)
@@ -27,6 +32,10 @@ minutes making calls i j = asked minutes_ops minutes_named making calls (λ m. (
 
 abbrev pub licences : Making → List (Call Licence) → ℕ → ℕ → Result ℕ ℕ
 licences making calls i j = asked licence_ops licence_named making calls (λ m. (L licence_ops (in_force m) m.n i j).mask)
+
+-- the plan for changed packages, in 25 bytes, five records and so many work words
+abbrev pub plan_for : Making → List (Call Minutes) → List ℕ → ℕ → Result (Result PlanCounts ℕ) ℕ
+plan_for making calls changed words = asked minutes_ops minutes_named making calls (λ m. plan_answer m changed 25 5 words)
 
 pub record WorkedCases : Type 0 where
   -- the longer chain is quicker than the arc
@@ -55,3 +64,18 @@ pub record WorkedCases : Type 0 where
   pub looped : asked minutes_ops minutes_named five (six minutes_of) (λ m. order_answer m 25 5 86) ≡ Ok (Err 14)
   -- and taken without the arc from the fourth back to the third
   pub straight : asked minutes_ops minutes_named five (six minutes_of ++ (Withdraw 3 2 ∷ [])) (λ m. order_answer m 25 5 85) ≡ Ok (Ok tt)
+  -- a change of the fourth package: its group, then the second, the first and the fifth, each waiting for the one before
+  pub plan_jobs : asked minutes_ops minutes_named five (six minutes_of) (λ m. jobs (in_force m) m.n (3 ∷ [])) ≡ Ok (0 ∷ 1 ∷ 2 ∷ 4 ∷ [])
+  pub plan_waves : asked minutes_ops minutes_named five (six minutes_of) (λ m. map (wave_of (in_force m) m.n (3 ∷ [])) (range_with_len 0 m.n)) ≡ Ok (2 ∷ 1 ∷ 0 ∷ 0 ∷ 3 ∷ [])
+  -- the first waits for the second alone, though it has an arc to that group too
+  pub plan_bytes :
+      asked minutes_ops minutes_named five (six minutes_of) (λ m. bytes (in_force m) m.n (3 ∷ []))
+      ≡ Ok (0 ∷ 2 ∷ 1 ∷ 0 ∷ 0 ∷ 0 ∷ 0 ∷ 2 ∷ 0 ∷ 0 ∷ 0 ∷ 0 ∷ 0 ∷ 0 ∷ 0 ∷ 0 ∷ 0 ∷ 0 ∷ 0 ∷ 0 ∷ 2 ∷ 1 ∷ 1 ∷ 0 ∷ 0 ∷ [])
+  pub plan_counted : plan_for five (six minutes_of) (3 ∷ []) 86 ≡ Ok (Ok (counted 4 4 3 1 2))
+  pub plan_of_first : plan_for five (six minutes_of) (0 ∷ []) 86 ≡ Ok (Ok (counted 2 2 1 0 0))
+  pub plan_of_none : plan_for five (six minutes_of) [] 86 ≡ Ok (Ok (counted 0 0 0 0 0))
+  -- an arc beside another is skipped
+  pub plan_beside : plan_for five (six minutes_of ++ (Admit 0 1 (minutes_of 6) ∷ [])) (3 ∷ []) 87 ≡ Ok (Ok (counted 4 4 3 2 2))
+  -- the arcs of a held package are out of the plan, and its change is refused
+  pub plan_held : plan_for (holding_over five) (six minutes_of ++ (Hold 1 ∷ [])) (3 ∷ []) 86 ≡ Ok (Ok (counted 3 3 2 0 2))
+  pub held_changed : plan_for (holding_over five) (six minutes_of ++ (Hold 1 ∷ [])) (1 ∷ []) 86 ≡ Ok (Err 15)

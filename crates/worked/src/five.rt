@@ -4,16 +4,25 @@ ghost use Rattle.labels.specs.Kinds.{minutes_ops, minutes_named, minutes_of};
 ghost use Rattle.catalogue.specs.declared.call.Call.TheVariants.{Admit};
 ghost use Rattle.catalogue.specs.Refusals.{answer};
 ghost use Rattle.catalogue.specs.Makings.{first_meaning};
-ghost use Rattle.runs.specs.declared.step.Step.TheVariants.{Alter};
+ghost use Rattle.runs.specs.declared.step.StepFor.TheVariants.{Alter};
 ghost use Rattle.worked.specs.Asked.{label_from, count_from, Named};
 ghost use Rattle.worked.specs.Worked.{five, six, WorkedCases};
+ghost use Rattle.worked.specs.Fives.{counted, PlannedFrom, PlanIs};
 
-use crate::makes::{label_in_ledger, sort_made};
+use crate::makes::{ask_made, label_in_ledger, sort_made};
 use catalogue::{Blank, Call, Ledger, Refusal};
 use closing::PackageRecord;
 use labels::{Label, Minutes};
 use paths::Arc;
-use runs::Step;
+use runs::{Outcome, Room, Step};
+
+// What plan answers, and leaves in the records and the set table, of five packages.
+#[derive(Clone, Copy, PartialEq, Eq, Debug)]
+pub struct PlanOfFive {
+    pub told: Result<Outcome, Refusal>,
+    pub records: [PackageRecord; 5],
+    pub sets: [u8; 25],
+}
 
 // The label of a pair there; the worked cases are of this ledger and some others.
 pub fn label_of_five(from: u32, to: u32) -> Result<Minutes, Refusal>
@@ -31,25 +40,33 @@ pub fn groups_of_five() -> [u32; 5]
     names(sort_five(&six_steps()))
 }
 
+// The plan for package 3: its group first, then 1, 0 and 4, each in a wave of its own.
+#[tactic(auto, using(crate::proofs::SixArcs::six_planned))]
+pub fn plan_of_five() -> PlanOfFive
+    ensures { PlanIs (counted 4 4 3 1 2) (0 ∷ 1 ∷ 2 ∷ 2 ∷ 4 ∷ []) (2 ∷ 1 ∷ 0 ∷ 0 ∷ 3 ∷ []) (0 ∷ 2 ∷ 1 ∷ 0 ∷ 0 ∷ 0 ∷ 0 ∷ 2 ∷ 0 ∷ 0 ∷ 0 ∷ 0 ∷ 0 ∷ 0 ∷ 0 ∷ 0 ∷ 0 ∷ 0 ∷ 0 ∷ 0 ∷ 2 ∷ 1 ∷ 1 ∷ 0 ∷ 0 ∷ []) result }
+{
+    plan_five(&six_steps(), &[3])
+}
+
 fn names(records: [PackageRecord; 5]) -> [u32; 5]
     ensures { result ≡ map (λ r. r.group) records }
 {
     records.map(|record| record.group)
 }
 
-// The records of five packages sorted after these steps, where sort takes them.
+// The records of five packages sorted after these calls, where sort takes them.
 #[tactic(auto, using(crate::proofs::After::named_after))]
-fn sort_five(steps: &[Step<Minutes>]) -> [PackageRecord; 5]
+fn sort_five(steps: &[Step<'_, Minutes>]) -> [PackageRecord; 5]
     ensures all { length result ≡ 5 }
     ensures named { is_ok (count_from minutes_ops (first_meaning minutes_ops minutes_named five) steps.now 5 86) ≡ true → Named minutes_ops (first_meaning minutes_ops minutes_named five) steps.now result }
 {
-    let label = Minutes::NONE;
     let mut arcs = blank_arcs();
-    let mut table = [label; 25];
-    let mut changed = [label; 25];
-    let mut found = [label; 25];
+    let mut table = [Minutes::NONE; 25];
+    let mut changed = [Minutes::NONE; 25];
+    let mut found = [Minutes::NONE; 25];
     let mut records = [PackageRecord::default(); 5];
     let mut words = [0; 86];
+    let mut sets = [0; 25];
     let _ = sort_made::<_, Ledger<Minutes>>(
         Blank {
             n: 5,
@@ -61,21 +78,22 @@ fn sort_five(steps: &[Step<Minutes>]) -> [PackageRecord; 5]
         &mut found,
         &mut records,
         &mut words,
+        &mut sets,
     );
     records
 }
 
-// The label of a pair of five packages after these steps.
-fn label_in_five(steps: &[Step<Minutes>], from: u32, to: u32) -> Result<Minutes, Refusal>
+// The label of a pair of five packages after these calls.
+fn label_in_five(steps: &[Step<'_, Minutes>], from: u32, to: u32) -> Result<Minutes, Refusal>
     ensures { answer result ≡ label_from minutes_ops (first_meaning minutes_ops minutes_named five) steps.now 25 from to }
 {
-    let label = Minutes::NONE;
     let mut arcs = blank_arcs();
-    let mut table = [label; 25];
-    let mut changed = [label; 25];
-    let mut found = [label; 25];
+    let mut table = [Minutes::NONE; 25];
+    let mut changed = [Minutes::NONE; 25];
+    let mut found = [Minutes::NONE; 25];
     let mut records = [PackageRecord::default(); 5];
     let mut words = [0; 86];
+    let mut sets = [0; 25];
     label_in_ledger(
         5,
         &mut arcs,
@@ -85,13 +103,53 @@ fn label_in_five(steps: &[Step<Minutes>], from: u32, to: u32) -> Result<Minutes,
         &mut found,
         &mut records,
         &mut words,
+        &mut sets,
         from,
         to,
     )
 }
 
+// The plan of five packages for these changed ones after these calls.
+#[tactic(auto, using(crate::proofs::Planned::planned_from))]
+fn plan_five(steps: &[Step<'_, Minutes>], packages: &[u32]) -> PlanOfFive
+    ensures { PlannedFrom minutes_ops (first_meaning minutes_ops minutes_named five) steps.now packages.now result }
+{
+    let mut arcs = blank_arcs();
+    let mut table = [Minutes::NONE; 25];
+    let mut changed = [Minutes::NONE; 25];
+    let mut found = [Minutes::NONE; 25];
+    let mut records = [PackageRecord::default(); 5];
+    let mut words = [0; 86];
+    let mut sets = [0; 25];
+    let told = ask_made::<_, Ledger<Minutes>>(
+        Blank {
+            n: 5,
+            arcs: &mut arcs,
+        },
+        steps,
+        &Step::Plan(25, ROOM, packages),
+        &mut table,
+        &mut changed,
+        &mut found,
+        &mut records,
+        &mut words,
+        &mut sets,
+    );
+    PlanOfFive {
+        told,
+        records,
+        sets,
+    }
+}
+
+// The records and work words that a plan of five packages with six arcs needs.
+pub(crate) const ROOM: Room = Room {
+    records: 5,
+    words: 86,
+};
+
 // Room for eight arcs.
-fn blank_arcs() -> [Arc<Minutes>; 8] {
+pub(crate) fn blank_arcs() -> [Arc<Minutes>; 8] {
     [Arc {
         from: 0,
         to: 0,
@@ -99,7 +157,7 @@ fn blank_arcs() -> [Arc<Minutes>; 8] {
     }; 8]
 }
 
-fn six_steps() -> [Step<Minutes>; 6]
+pub(crate) fn six_steps() -> [Step<'static, Minutes>; 6]
     ensures { result ≡ map Alter (six minutes_of) }
 {
     [
@@ -112,7 +170,7 @@ fn six_steps() -> [Step<Minutes>; 6]
     ]
 }
 
-fn admit(from: u32, to: u32, value: u32) -> Step<Minutes>
+fn admit(from: u32, to: u32, value: u32) -> Step<'static, Minutes>
     ensures { result ≡ Alter (Admit from to (minutes_of value)) }
 {
     Step::Alter(Call::Admit(from, to, Minutes { value }))
