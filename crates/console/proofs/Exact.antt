@@ -8,7 +8,7 @@ use Rattle.std.proofs.lemmas.Bool.{cond_both, eqb-true}
 use Rattle.catalogue.specs.Refusals.{answer}
 use Rattle.catalogue.specs.declared.refusal.Refusal.TheVariants.{NotCommand}
 use Rattle.console.specs.declared.command.Command.{Command}
-use Rattle.console.specs.declared.command.Command.TheVariants.{Size, Admit, Withdraw, Hold, Lift, Label}
+use Rattle.console.specs.declared.command.Command.TheVariants.{Size, Admit, Withdraw, Hold, Lift, Label, Plan}
 use Rattle.console.specs.Grammar.{Exactly, Fits, by_letter, command_of, field, written}
 use Rattle.console.proofs.Fields.{three_all, three_some, two_all, two_some, map_some}
 use Rattle.console.proofs.Numbers.{number_all, number_some}
@@ -31,7 +31,8 @@ by_letter_some l bs c =
     (letter (λ t. Withdraw t.0 t.1) l 119 bs c _ _ (λ _. refl) (two_some bs)
     (letter (λ p. Hold p) l 104 bs c _ _ (λ _. refl) (number_some bs)
     (letter (λ p. Lift p) l 108 bs c _ _ (λ _. refl) (number_some bs)
-    (letter (λ t. Label t.0 t.1) l 109 bs c _ _ (λ _. refl) (two_some bs) (λ e. absurd (none-some c e)))))))
+    (letter (λ t. Label t.0 t.1) l 109 bs c _ _ (λ _. refl) (two_some bs)
+    (letter (λ p. Plan p) l 112 bs c _ _ (λ _. refl) (number_some bs) (λ e. absurd (none-some c e))))))))
 
 command_some : (line : List ℕ) (c : Command) → command_of line ≡ Some c → (line ≡ written c) × Fits c
 command_some line c e = grind (arith, common_steps, by_letter_some (get_or line 0 0) (drop 2 line) c)
@@ -43,6 +44,7 @@ command_all (Withdraw f t) fits = grind (arith, two_all f t)
 command_all (Hold p) fits = grind (arith, number_all p)
 command_all (Lift p) fits = grind (arith, number_all p)
 command_all (Label f t) fits = grind (arith, two_all f t)
+command_all (Plan p) fits = grind (arith, number_all p)
 
 pub exactly : (line : List ℕ) (o : Option Command) → o ≡ command_of line → Exactly line (ok_or o NotCommand)
 exactly line (Some c) e = record {
@@ -67,6 +69,7 @@ written_le (Withdraw f t) fits = grind (arith, field_le, length-append)
 written_le (Hold p) fits = omega (arith, field_le p fits)
 written_le (Lift p) fits = omega (arith, field_le p fits)
 written_le (Label f t) fits = grind (arith, field_le, length-append)
+written_le (Plan p) fits = omega (arith, field_le p fits)
 
 none_left : {X : Type 0} (o : Option X) → ((x : X) → o ≡ Some x → ⊥) → o ≡ None
 none_left o h = grind arith

@@ -4,7 +4,7 @@ use Rattle.std.specs.Char.{is_ascii_digit}
 use Rattle.catalogue.specs.declared.refusal.Refusal.{Refusal}
 use Rattle.catalogue.specs.Refusals.{answer}
 use Rattle.console.specs.declared.command.Command.{Command}
-use Rattle.console.specs.declared.command.Command.TheVariants.{Size, Admit, Withdraw, Hold, Lift, Label}
+use Rattle.console.specs.declared.command.Command.TheVariants.{Size, Admit, Withdraw, Hold, Lift, Label, Plan}
 
 -- the number with one more digit, below 2 ^ 32
 abbrev pub grow : ℕ → ℕ → Option ℕ
@@ -52,9 +52,19 @@ lift_of bs = option_map (λ p. Lift p) (number_of bs)
 abbrev pub label_of : List ℕ → Option Command
 label_of bs = option_map (λ t. Label t.0 t.1) (two_of bs)
 
--- by the letters n, a, w, h, l, m
+abbrev pub plan_of : List ℕ → Option Command
+plan_of bs = option_map (λ p. Plan p) (number_of bs)
+
+-- by the letters n, a, w, h, l, m, p
 abbrev pub by_letter : ℕ → List ℕ → Option Command
-by_letter l bs = cond (l == 110) (size_of bs) (cond (l == 97) (admit_of bs) (cond (l == 119) (withdraw_of bs) (cond (l == 104) (hold_of bs) (cond (l == 108) (lift_of bs) (cond (l == 109) (label_of bs) None)))))
+by_letter l bs =
+    cond (l == 110) (size_of bs)
+    (cond (l == 97) (admit_of bs)
+    (cond (l == 119) (withdraw_of bs)
+    (cond (l == 104) (hold_of bs)
+    (cond (l == 108) (lift_of bs)
+    (cond (l == 109) (label_of bs)
+    (cond (l == 112) (plan_of bs) None))))))
 
 -- a byte and a space come first
 abbrev pub opened : List ℕ → Bool
@@ -76,6 +86,7 @@ written (Withdraw f t) = 119 ∷ (field f ++ field t)
 written (Hold p) = 104 ∷ field p
 written (Lift p) = 108 ∷ field p
 written (Label f t) = 109 ∷ (field f ++ field t)
+written (Plan p) = 112 ∷ field p
 
 abbrev pub Fits : Command → Type 0
 Fits (Size p) = p < 2 ^ 32
@@ -84,6 +95,7 @@ Fits (Withdraw f t) = (f < 2 ^ 32) × (t < 2 ^ 32)
 Fits (Hold p) = p < 2 ^ 32
 Fits (Lift p) = p < 2 ^ 32
 Fits (Label f t) = (f < 2 ^ 32) × (t < 2 ^ 32)
+Fits (Plan p) = p < 2 ^ 32
 
 -- what a line is: its command, or 16
 abbrev pub parsed : List ℕ → Result Command ℕ

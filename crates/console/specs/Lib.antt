@@ -1,4 +1,6 @@
 pub mod Content
 pub mod Grammar
+pub mod Jobs
+pub mod Programs
 pub mod Replies
 pub mod Sessions

@@ -11,4 +11,6 @@ pub enum Command {
     Lift(u32),
     // from, to
     Label(u32, u32),
+    // the one changed package
+    Plan(u32),
 }

@@ -2,9 +2,12 @@
 // memory in which one is collected.
 #![tactic(auto)]
 
+mod asking;
 pub mod buffer;
 pub mod command;
+pub mod jobs;
 pub mod lines;
+pub mod program;
 pub mod reply;
 pub mod session;
 #[cfg(test)]

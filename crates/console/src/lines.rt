@@ -41,6 +41,7 @@ fn by_letter(letter: char, fields: &[u8]) -> Option<Command>
         'h' => number(fields).map(Command::Hold),
         'l' => number(fields).map(Command::Lift),
         'm' => two(fields).map(|(from, to)| Command::Label(from, to)),
+        'p' => number(fields).map(Command::Plan),
         _ => None,
     }
 }

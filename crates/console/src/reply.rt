@@ -1,5 +1,6 @@
 // What a command answers that is not refused.
 use labels::Minutes;
+use plans::PlanCounts;
 use std::fmt;
 
 #[derive(Clone, Copy, PartialEq, Eq, Debug)]
@@ -7,6 +8,8 @@ pub enum Reply {
     Done,
     // the label of a pair of packages
     Label(Minutes),
+    // the counts of a plan
+    Planned(PlanCounts),
 }
 
 // As the program answers.
@@ -20,6 +23,11 @@ impl fmt::Display for Reply {
         match self {
             Reply::Done => write!(f, "ok"),
             Reply::Label(label) => write!(f, "{label}"),
+            Reply::Planned(told) => write!(
+                f,
+                "total {} {} {} {} {}",
+                told.jobs, told.waves, told.merged, told.skipped, told.inner
+            ),
         }
     }
 }

@@ -3,8 +3,9 @@
 
 mod input;
 
-use catalogue::{Blank, Catalogue, Holding, Ledger, Make, Refusal};
-use console::reply::Reply;
+use catalogue::{Blank, Catalogue, Holding, Ledger, Make};
+use closing::PackageRecord;
+use console::jobs::Answer;
 use console::session::{MOST_PACKAGES, obey, open_with};
 use input::Input;
 use labels::{Label, Minutes};
@@ -14,8 +15,13 @@ use std::io;
 // The most arcs that the program keeps.
 const PLACES: usize = 512;
 
-// A cell for the label of each pair.
-const CELLS: usize = MOST_PACKAGES as usize * MOST_PACKAGES as usize;
+// A record for each package; a cell for the label, and a byte for the jobs, of each pair; and as many
+// work words as sort and plan want.
+const RECORDS: usize = MOST_PACKAGES as usize;
+
+const CELLS: usize = RECORDS * RECORDS;
+
+const WORDS: usize = 16 * RECORDS + PLACES;
 
 fn main(rt: HostRuntime) -> io::Result<()> {
     let mut arcs = [Arc {
@@ -24,6 +30,9 @@ fn main(rt: HostRuntime) -> io::Result<()> {
         label: Minutes::NONE,
     }; PLACES];
     let mut table = [Minutes::NONE; CELLS];
+    let mut records = [PackageRecord::default(); RECORDS];
+    let mut words = [0; WORDS];
+    let mut sets = [0; CELLS];
     let mut input = Input::new(rt.stdin());
     let Some(n) = first_size(&rt, &mut input)? else {
         return Ok(());
@@ -31,7 +40,15 @@ fn main(rt: HostRuntime) -> io::Result<()> {
     match Holding::<Ledger<Minutes>>::make(Blank { n, arcs: &mut arcs }) {
         Ok(mut catalogue) => {
             println!(rt; "ok")?;
-            serve(&rt, &mut input, &mut catalogue, &mut table)
+            serve(
+                &rt,
+                &mut input,
+                &mut catalogue,
+                &mut table,
+                &mut records,
+                &mut words,
+                &mut sets,
+            )
         }
         // not for an n of 1 to 64
         Err(refusal) => println!(rt; "{refusal}"),
@@ -55,16 +72,20 @@ fn serve<C: Catalogue<Label = Minutes>>(
     input: &mut Input,
     catalogue: &mut C,
     table: &mut [Minutes],
+    records: &mut [PackageRecord],
+    words: &mut [u32],
+    sets: &mut [u8],
 ) -> io::Result<()> {
     for line in input.by_ref().take(usize::MAX) {
-        tell(rt, obey(catalogue, table, line.line()))?;
+        let told = obey(catalogue, table, records, words, sets, line.line());
+        let n = catalogue.n();
+        let answer = Answer {
+            told,
+            n,
+            records,
+            sets,
+        };
+        println!(rt; "{answer}")?;
     }
     Ok(())
-}
-
-fn tell(rt: &HostRuntime, answer: Result<Reply, Refusal>) -> io::Result<()> {
-    match answer {
-        Ok(reply) => println!(rt; "{reply}"),
-        Err(refusal) => println!(rt; "{refusal}"),
-    }
 }
