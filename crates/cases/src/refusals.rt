@@ -139,6 +139,7 @@ fn numbers(rt: HostRuntime) {
         (Refusal::NotHeld, 12),
         (Refusal::ShortBuffer, 13),
         (Refusal::Loop, 14),
+        (Refusal::Held, 15),
         (Refusal::NotCommand, 16),
     ];
     for (refusal, number) in numbers {

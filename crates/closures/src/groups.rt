@@ -14,10 +14,9 @@ pub struct Groups {
 impl Groups {
     // The groups that these arcs make of `n` packages.
     pub(crate) fn new(heap: Global, n: u32, arcs: &[Arc<u32>]) -> Result<Groups, AllocError> {
-        let cells = n.saturating_mul(n) as usize;
         let mut groups = Groups {
             n,
-            led: vec![in heap; false; cells]?,
+            led: vec![in heap; false; cells(n)]?,
             names: Vec::new(heap),
         };
         // each pass enters at least the chains of one arc more
@@ -37,16 +36,11 @@ impl Groups {
     fn follow(&mut self, arc: &Arc<u32>) {
         for p in 0..self.n {
             if p == arc.from || self.leads(p, arc.from) {
-                let place = self.place(p, arc.to);
-                if let Some(cell) = self.led.get_mut(place) {
+                if let Some(cell) = self.led.get_mut(place(self.n, p, arc.to)) {
                     *cell = true;
                 }
             }
         }
-    }
-
-    fn place(&self, from: u32, to: u32) -> usize {
-        from.saturating_mul(self.n).saturating_add(to) as usize
     }
 
     // The lowest number in a package's group.
@@ -60,7 +54,7 @@ impl Groups {
 
     // Does a chain of one arc or more lead from one to the other?
     pub(crate) fn leads(&self, from: u32, to: u32) -> bool {
-        self.led.get(self.place(from, to)) == Some(&true)
+        self.led.get(place(self.n, from, to)) == Some(&true)
     }
 
     // Are the two in one group?
@@ -89,4 +83,14 @@ impl Groups {
             .filter(|p| self.names_its_own(*p) && self.leads(*p, *p))
             .count()
     }
+}
+
+// How many pairs of `n` packages there are.
+pub(crate) fn cells(n: u32) -> usize {
+    n.saturating_mul(n) as usize
+}
+
+// The place of a pair, row by row.
+pub(crate) fn place(n: u32, from: u32, to: u32) -> usize {
+    from.saturating_mul(n).saturating_add(to) as usize
 }

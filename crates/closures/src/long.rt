@@ -7,18 +7,18 @@ use labels::Minutes;
 use std::alloc::{AllocError, Global};
 use std::test::Fail;
 
-const PACKAGES: u32 = 1024;
+pub(crate) const PACKAGES: u32 = 1024;
 
-const MOST: usize = 1024;
+pub(crate) const MOST: usize = 1024;
 
-const CELLS: usize = 1048576;
+pub(crate) const CELLS: usize = 1048576;
 
 // What stands in a table before it is written to.
 const UNWRITTEN: Minutes = Minutes { value: 7777 };
 
 // To which neighbour each package has an arc.
 #[derive(Clone, Copy)]
-enum Chain {
+pub enum Chain {
     Up,
     Down,
 }
@@ -55,15 +55,27 @@ impl Chain {
         }
     }
 
+    // The package to which all others lead.
+    pub(crate) fn last(self) -> u32 {
+        match self {
+            Chain::Up => PACKAGES.saturating_sub(1),
+            Chain::Down => 0,
+        }
+    }
+
+    // How many arcs lead from one package to another, one on the other.
+    pub(crate) fn steps(self, from: u32, to: u32) -> u32 {
+        match self {
+            Chain::Up => to.saturating_sub(from),
+            Chain::Down => from.saturating_sub(to),
+        }
+    }
+
     // Each is a group; the last has rank 0.
-    fn record(self, p: u32) -> PackageRecord {
-        let rank = match self {
-            Chain::Up => PACKAGES.saturating_sub(1).saturating_sub(p),
-            Chain::Down => p,
-        };
+    pub(crate) fn record(self, p: u32) -> PackageRecord {
         PackageRecord {
             group: p,
-            rank,
+            rank: self.steps(p, self.last()),
             wave: 4294967295,
         }
     }
@@ -89,7 +101,7 @@ fn unwritten(heap: Global) -> Result<Vec<Minutes>, AllocError> {
     Ok(vec![in heap; UNWRITTEN; CELLS]?)
 }
 
-fn unsorted(heap: Global) -> Result<Vec<PackageRecord>, AllocError> {
+pub(crate) fn unsorted(heap: Global) -> Result<Vec<PackageRecord>, AllocError> {
     let record = PackageRecord {
         group: 0,
         rank: 0,
@@ -99,7 +111,7 @@ fn unsorted(heap: Global) -> Result<Vec<PackageRecord>, AllocError> {
 }
 
 // As many as sort needs where there are so many arcs.
-fn work(heap: Global, arcs: usize) -> Result<Vec<u32>, AllocError> {
+pub(crate) fn work(heap: Global, arcs: usize) -> Result<Vec<u32>, AllocError> {
     let words = MOST.saturating_mul(16).saturating_add(arcs);
     Ok(vec![in heap; u32::MAX; words]?)
 }
@@ -151,7 +163,7 @@ fn check_rounds(heap: Global, c: &Ledger<'_, Minutes>, chain: Chain) -> Result<(
 }
 
 // Makes a check on a ledger with the arcs of each chain.
-fn check_chains<F: Fn(Global, &Ledger<'_, Minutes>, Chain) -> Result<(), Fail>>(
+pub(crate) fn check_chains<F: Fn(Global, &Ledger<'_, Minutes>, Chain) -> Result<(), Fail>>(
     heap: Global,
     check_one: F,
 ) -> Result<(), Fail>

@@ -4,6 +4,7 @@ use crate::closed::check_closed;
 use crate::groups::Groups;
 use crate::kinds::Kind;
 use crate::ordered::check_order;
+use crate::plan_shapes::{PlanShapes, any_changed};
 use crate::scenes::{PLACES, Ways, admission, any_call, in_force, labelled};
 use crate::shapes::Shapes;
 use crate::sorted::check_sort;
@@ -24,6 +25,8 @@ struct Scene<K> {
     n: u32,
     first: Vec<Call<u32>>,
     then: Vec<Call<u32>>,
+    // the packages for which is planned; some are none, or held
+    changed: Vec<u32>,
     kind: PhantomData<K>,
 }
 
@@ -31,6 +34,7 @@ struct Scene<K> {
 #[derive(Clone, Copy, Default)]
 struct Seen {
     shapes: Shapes,
+    plans: PlanShapes,
     // two arcs in force with the same ends
     parallel: usize,
     // an arc that a hold hides
@@ -49,6 +53,7 @@ impl Seen {
     // Of any make.
     fn check<K: Kind>(&self) -> Result<(), Fail> {
         self.shapes.check()?;
+        self.plans.check()?;
         check(self.parallel > 0)?;
         check_eq(self.lost > 0, K::LOSES)?;
         check_eq(self.lost_straight > 0, K::LOSES)?;
@@ -60,12 +65,13 @@ impl Seen {
     fn check_with_holds<K: Kind>(&self) -> Result<(), Fail> {
         check(self.hidden > 0)?;
         self.shapes.check_holds()?;
+        self.plans.check_holds()?;
         self.check::<K>()
     }
 }
 
 impl<K: Kind> Scene<K> {
-    fn new(heap: Global, rolls: &mut Rolls) -> Result<Scene<K>, AllocError> {
+    fn new(heap: Global, rolls: &mut Rolls, changes: &mut Rolls) -> Result<Scene<K>, AllocError> {
         let n = rolls.below(10).clamp(1, 5);
         let ways = Ways::rolled(rolls);
         Ok(Scene {
@@ -75,6 +81,7 @@ impl<K: Kind> Scene<K> {
                 .map(|_| admission::<K>(rolls, n, ways))
                 .collect(heap)?,
             then: (0..6).map(|_| any_call::<K>(rolls, n, ways)).collect(heap)?,
+            changed: any_changed(heap, changes, n)?,
             kind: PhantomData,
         })
     }
@@ -106,6 +113,14 @@ impl<K: Kind> Scene<K> {
         reference.run(self.then.as_slice())?;
         let arcs = in_force(self.heap, &reference)?;
         let groups = compare(self.heap, top, arcs.as_slice(), seen)?;
+        seen.plans.check_plans(
+            self.heap,
+            top,
+            &reference,
+            arcs.as_slice(),
+            &groups,
+            self.changed.as_slice(),
+        )?;
         count(&mut seen.hidden, arcs.len() < reference.stock_len());
         seen.shapes.note_holds(self.heap, &mut reference, &groups)?;
         Ok(())
@@ -124,8 +139,15 @@ impl<K: Kind> Scene<K> {
         let arcs = in_force(self.heap, &reference)?;
         let bytes = sheet_bytes(self.heap, self.n, arcs.as_slice())?;
         let sheet = Sheet::<K>::make(bytes.as_slice())?;
-        compare(self.heap, &sheet, arcs.as_slice(), seen)?;
-        Ok(())
+        let groups = compare(self.heap, &sheet, arcs.as_slice(), seen)?;
+        seen.plans.check_plans(
+            self.heap,
+            &sheet,
+            &reference,
+            arcs.as_slice(),
+            &groups,
+            self.changed.as_slice(),
+        )
     }
 
     fn check_turned(&self, seen: &mut Seen) -> Result<(), Fail> {
@@ -237,9 +259,10 @@ fn seen_over<K: Kind, F: Fn(&Scene<K>, &mut Seen) -> Result<(), Fail>>(
     requires { F.IsAlwaysCallable check_make }
 {
     let mut rolls = Rolls::new(20);
+    let mut changes = Rolls::new(21);
     let mut seen = Seen::default();
     for _ in 0..SCENES {
-        let scene = Scene::new(heap, &mut rolls)?;
+        let scene = Scene::new(heap, &mut rolls, &mut changes)?;
         check_make(&scene, &mut seen)?;
     }
     Ok(seen)

@@ -23,12 +23,15 @@ pub(crate) fn unsorted(heap: Global) -> Result<Vec<PackageRecord>, AllocError> {
 
 // As many work words as sort needs, with all bits set.
 pub(crate) fn work<C: Catalogue>(heap: Global, c: &C) -> Result<Vec<u32>, AllocError> {
-    let packages = c.n() as usize;
-    let words = packages.saturating_mul(16).saturating_add(c.stock_len());
-    Ok(vec![in heap; u32::MAX; words]?)
+    Ok(vec![in heap; u32::MAX; words_for(c)]?)
 }
 
-fn record(records: &[PackageRecord], p: u32) -> PackageRecord {
+pub(crate) fn words_for<C: Catalogue>(c: &C) -> usize {
+    let packages = c.n() as usize;
+    packages.saturating_mul(16).saturating_add(c.stock_len())
+}
+
+pub(crate) fn record(records: &[PackageRecord], p: u32) -> PackageRecord {
     records.get(p as usize).copied().unwrap_or(UNSORTED)
 }
 
@@ -61,9 +64,18 @@ pub(crate) fn check_sorted(
     groups: &Groups,
     arcs: &[Arc<u32>],
 ) -> Result<(), Fail> {
+    check((0..groups.n()).all(|p| record(records, p).wave == 4294967295))?;
+    check_grouped(records, groups, arcs)
+}
+
+// The same, whatever the waves are.
+pub(crate) fn check_grouped(
+    records: &[PackageRecord],
+    groups: &Groups,
+    arcs: &[Arc<u32>],
+) -> Result<(), Fail> {
     let n = groups.n();
     check((0..n).all(|p| record(records, p).group == groups.name(p)))?;
-    check((0..n).all(|p| record(records, p).wave == 4294967295))?;
     check_ranks(records, groups, arcs)?;
     let mut spare = records.iter().skip(n as usize);
     check(spare.all(|record| *record == UNSORTED))

@@ -1,4 +1,5 @@
-// Runs of calls with closings and sort among them, on Holding over a ledger of three packages.
+// Runs of calls with closings, sort and plans among them, on Holding over a ledger of three packages.
+use crate::planned::UNPLANNED;
 use crate::scenes::PLACES;
 use crate::short::{check_numbered, numbered};
 use crate::short_work::{check_marked, marked, records_of};
@@ -7,25 +8,27 @@ use cases::{blank, check, check_eq, empty_ledger};
 use catalogue::{Call, Catalogue, Holding, Layer, Refusal};
 use closing::PackageRecord;
 use labels::Minutes;
+use plan::PlanCounts;
 use runs::{Outcome, Room, Step, make_call, run};
 use std::alloc::Global;
 use std::test::Fail;
 
 // A run's table and its two spare ones, each of three cells more than a closing needs; two records
-// more, and more work words, than sort needs.
+// more, and more work words, than sort needs; and a set table of three bytes more than a plan needs.
 #[derive(Drop)]
-struct Buffers {
+pub struct Buffers {
     table: Vec<Minutes>,
     changed: Vec<Minutes>,
     found: Vec<Minutes>,
-    records: Vec<PackageRecord>,
+    pub(crate) records: Vec<PackageRecord>,
     words: Vec<u32>,
+    pub(crate) sets: Vec<u8>,
 }
 
 // What a run leaves in the buffers. The catalogue then has so many arcs, and holds these packages.
-fn buffers_after(
+pub(crate) fn buffers_after(
     heap: Global,
-    steps: &[Step<Minutes>],
+    steps: &[Step<'_, Minutes>],
     stock_len: usize,
     held: &[u32],
 ) -> Result<Buffers, Fail> {
@@ -36,6 +39,7 @@ fn buffers_after(
     let mut found = numbered(heap, 300..312)?;
     let mut records = records_of(heap, 5)?;
     let mut words: Vec<u32> = (0..60).collect(heap)?;
+    let mut sets = vec![in heap; UNPLANNED; 12]?;
     run(
         &mut top,
         steps,
@@ -44,6 +48,7 @@ fn buffers_after(
         found.as_mut_slice(),
         records.as_mut_slice(),
         words.as_mut_slice(),
+        sets.as_mut_slice(),
     );
     check_eq(top.stock_len(), stock_len)?;
     check((0..3).all(|p| top.is_held(p) == held.contains(&p)))?;
@@ -53,23 +58,24 @@ fn buffers_after(
         found,
         records,
         words,
+        sets,
     })
 }
 
-fn admit(from: u32, to: u32, value: u32) -> Step<Minutes> {
+pub(crate) fn admit(from: u32, to: u32, value: u32) -> Step<'static, Minutes> {
     Step::Alter(Call::Admit(from, to, Minutes { value }))
 }
 
-fn room(records: usize, words: usize) -> Room {
+pub(crate) fn room(records: usize, words: usize) -> Room {
     Room { records, words }
 }
 
-fn hold(p: u32) -> Step<Minutes> {
+pub(crate) fn hold(p: u32) -> Step<'static, Minutes> {
     Step::Alter(Call::Hold(p))
 }
 
 // Closings in as many cells as there are, in too few twice, and in just enough.
-fn steps() -> [Step<Minutes>; 9] {
+fn steps() -> [Step<'static, Minutes>; 9] {
     [
         admit(0, 1, 4),
         admit(1, 2, 3),
@@ -106,7 +112,7 @@ fn elimination(rt: HostRuntime) -> Result<(), Fail> {
     check_table(&tables, &[10, NONE, 9, NONE, NONE, NONE, 1, NONE, 10])
 }
 
-// Where the only closing or sort is refused, every buffer is as it was.
+// Where the only closing, sort or plan is refused, every buffer is as it was.
 #[test]
 fn refused(rt: HostRuntime) -> Result<(), Fail> {
     let refused = [
@@ -118,6 +124,10 @@ fn refused(rt: HostRuntime) -> Result<(), Fail> {
         Step::Order(9, room(3, 49)),
         Step::Sort(room(2, 50)),
         Step::Sort(room(3, 49)),
+        Step::Plan(8, room(3, 50), &[3]),
+        Step::Plan(9, room(2, 50), &[0]),
+        Step::Plan(9, room(3, 49), &[0]),
+        Step::Plan(9, room(3, 50), &[0, 3]),
     ];
     for closing in refused {
         let steps = [admit(0, 1, 4), admit(1, 0, 3), closing, hold(2)];
@@ -127,6 +137,7 @@ fn refused(rt: HostRuntime) -> Result<(), Fail> {
         check_numbered(tables.found.as_slice(), 300..312)?;
         check_marked(tables.records.as_slice(), 5)?;
         check(tables.words.iter().copied().eq(0..60))?;
+        check(tables.sets.iter().all(|byte| *byte == UNPLANNED))?;
     }
     Ok(())
 }
@@ -203,6 +214,15 @@ fn answers(rt: HostRuntime) -> Result<(), Fail> {
     let mut found = numbered(heap, 0..9)?;
     let mut records = records_of(heap, 3)?;
     let mut words: Vec<u32> = (0..51).collect(heap)?;
+    let mut sets = vec![in heap; UNPLANNED; 9]?;
+    // 0 waits for 1 and 2, which lead to each other
+    let counts = PlanCounts {
+        jobs: 2,
+        waves: 2,
+        merged: 1,
+        skipped: 0,
+        inner: 2,
+    };
     let answers = [
         (admit(0, 1, 4), Ok(Outcome::Altered)),
         (admit(1, 2, 3), Ok(Outcome::Altered)),
@@ -215,16 +235,25 @@ fn answers(rt: HostRuntime) -> Result<(), Fail> {
         (Step::Order(9, room(3, 51)), Err(Refusal::Loop)),
         (Step::Sort(room(3, 51)), Ok(Outcome::Sorted(2))),
         (Step::Eliminate(8), Err(Refusal::ShortBuffer)),
+        (
+            Step::Plan(9, room(3, 51), &[1]),
+            Ok(Outcome::Planned(counts)),
+        ),
+        (Step::Plan(9, room(3, 51), &[1, 3]), Err(Refusal::NoPackage)),
+        (Step::Plan(8, room(3, 51), &[3]), Err(Refusal::ShortBuffer)),
+        (hold(0), Ok(Outcome::Altered)),
+        (Step::Plan(9, room(3, 51), &[0, 3]), Err(Refusal::Held)),
     ];
     for (step, answer) in answers {
         let told = make_call(
             &mut top,
-            step,
+            &step,
             table.as_mut_slice(),
             changed.as_mut_slice(),
             found.as_mut_slice(),
             records.as_mut_slice(),
             words.as_mut_slice(),
+            sets.as_mut_slice(),
         );
         check_eq(told, answer)?;
     }

@@ -1,8 +1,9 @@
-// Random catalogues of more packages: sort beside the groups by the rules alone, and closing by order
-// beside elimination.
+// Random catalogues of more packages: sort and plan beside what the rules alone give, and closing by
+// order beside elimination.
 use crate::closed::unwritten;
 use crate::groups::Groups;
 use crate::ordered::check_order;
+use crate::plan_shapes::{PlanShapes, any_changed};
 use crate::scenes::{Ways, any_call, in_force, labelled};
 use crate::shapes::Shapes;
 use crate::sorted::check_sort;
@@ -19,8 +20,15 @@ const SCENES: u32 = 100;
 // The arcs that each ledger has room for.
 const PLACES: usize = 20;
 
-// Compares after these calls on two layers over a ledger.
-fn compare(heap: Global, n: u32, calls: &[Call<u32>], seen: &mut Shapes) -> Result<(), Fail> {
+// Compares after these calls on two layers over a ledger, and plans for these packages.
+fn compare(
+    heap: Global,
+    n: u32,
+    calls: &[Call<u32>],
+    changed: &[u32],
+    seen: &mut Shapes,
+    plans: &mut PlanShapes,
+) -> Result<(), Fail> {
     let mut places = blank::<Minutes>(heap, PLACES)?;
     let ledger = empty_ledger(n, places.as_mut_slice())?;
     let mut top = Holding::over(Turned::over(ledger));
@@ -34,6 +42,7 @@ fn compare(heap: Global, n: u32, calls: &[Call<u32>], seen: &mut Shapes) -> Resu
     let mut table = unwritten(heap)?;
     by_elimination(&top, table.as_mut_slice())?;
     check_order(heap, &top, arcs.as_slice(), &groups, table.as_slice())?;
+    plans.check_plans(heap, &top, &reference, arcs.as_slice(), &groups, changed)?;
     seen.note(heap, arcs.as_slice(), &groups)?;
     seen.note_holds(heap, &mut reference, &groups)?;
     Ok(())
@@ -43,15 +52,27 @@ fn compare(heap: Global, n: u32, calls: &[Call<u32>], seen: &mut Shapes) -> Resu
 fn minutes(rt: HostRuntime) -> Result<(), Fail> {
     let heap = rt.alloc();
     let mut rolls = Rolls::new(20);
+    let mut changes = Rolls::new(21);
     let mut seen = Shapes::default();
+    let mut plans = PlanShapes::default();
     for _ in 0..SCENES {
         let n = rolls.below(6).saturating_add(5);
         let ways = Ways::rolled(&mut rolls);
         let calls: Vec<Call<u32>> = (0..28)
             .map(|_| any_call::<Minutes>(&mut rolls, n, ways))
             .collect(heap)?;
-        compare(heap, n, calls.as_slice(), &mut seen)?;
+        let changed = any_changed(heap, &mut changes, n)?;
+        compare(
+            heap,
+            n,
+            calls.as_slice(),
+            changed.as_slice(),
+            &mut seen,
+            &mut plans,
+        )?;
     }
     seen.check()?;
-    seen.check_holds()
+    seen.check_holds()?;
+    plans.check()?;
+    plans.check_holds()
 }
