@@ -121,6 +121,14 @@ impl<'a> Reading<'a> {
         &self.units()[..self.n as usize]
     }
 
+    // Those of all packages but the first.
+    fn later_pairs(&self) -> &'a [[u8; 8]]
+        ensures len { length result.now ≡ self.now.n - 1 }
+        ensures fields { Units self.now.bytes.now 12 result.now }
+    {
+        &self.units()[1..self.n as usize]
+    }
+
     // The arcs of all runs.
     pub(crate) fn arcs(&self) -> &'a [[u8; 8]]
         ensures len { length result.now ≡ (length self.now.bytes.now - (4 + 8 * self.now.n)) / 8 }
@@ -166,7 +174,7 @@ impl<'a> Reading<'a> {
         Ok(())
     }
 
-    // The last package whose run begins at or before a byte.
+    // The last package whose run begins at or before a byte, as the first package's does.
     pub(crate) fn source(&self, at: usize) -> u32
         requires met { first_unmet (pair_checks self.now.bytes.now) ≡ 0 }
         requires begun { offset_of self.now.bytes.now 0 ≤ at }
@@ -174,8 +182,10 @@ impl<'a> Reading<'a> {
         ensures begun { offset_of self.now.bytes.now result ≤ at }
         ensures last { result + 1 < self.now.n → at < offset_of self.now.bytes.now (result + 1) }
     {
-        let begun = self.pairs().partition_point(|pair| begins_by(pair, at));
-        begun as u32 - 1
+        let begun = self
+            .later_pairs()
+            .partition_point(|pair| begins_by(pair, at));
+        begun as u32
     }
 }
 

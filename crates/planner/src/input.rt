@@ -1,7 +1,7 @@
 // Standard input, line by line, in bounded memory.
-use arrayvec::{ArrayVec, IntoIter};
 use console::buffer::LineBuffer;
 use std::io::{Read, Stdin};
+use std::ops::Range;
 
 // The most bytes that are read at once.
 const CHUNK: usize = 4096;
@@ -10,27 +10,20 @@ const CHUNK: usize = 4096;
 #[derive(Drop)]
 struct Bytes {
     source: Stdin,
-    chunk: IntoIter<u8, CHUNK>,
-}
-
-impl Bytes {
-    fn next_chunk(&mut self) -> IntoIter<u8, CHUNK> {
-        let mut bytes = [0; CHUNK];
-        let len = self.source.read(&mut bytes).unwrap_or(0);
-        let mut chunk = ArrayVec::from(bytes);
-        chunk.truncate(len);
-        chunk.into_iter()
-    }
+    chunk: [u8; CHUNK],
+    // where those of the chunk stand that are still to come
+    rest: Range<usize>,
 }
 
 impl Iterator for Bytes {
     type Item = u8;
 
     fn next(&mut self) -> Option<u8> {
-        if self.chunk.len() == 0 {
-            self.chunk = self.next_chunk();
+        if self.rest.is_empty() {
+            self.rest = 0..self.source.read(&mut self.chunk).unwrap_or(0);
         }
-        self.chunk.next()
+        let at = self.rest.next()?;
+        self.chunk.get(at).copied()
     }
 }
 
@@ -46,7 +39,8 @@ impl Input {
         Input {
             bytes: Bytes {
                 source,
-                chunk: ArrayVec::new().into_iter(),
+                chunk: [0; CHUNK],
+                rest: 0..0,
             },
         }
     }
