@@ -11,7 +11,7 @@ const CHUNK: usize = 4096;
 struct Bytes {
     source: Stdin,
     chunk: [u8; CHUNK],
-    // where those of the chunk stand that are still to come
+    // where the bytes of the chunk stand that are still to come
     rest: Range<usize>,
 }
 
